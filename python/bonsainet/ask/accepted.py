@@ -40,6 +40,16 @@ def a_class(word: str) -> Wanted:
         raise argparse.ArgumentTypeError(f"neither a number, a prefix nor an address: {word!r}") from None
 
 
+def add_text(made: argparse.ArgumentParser) -> None:
+    """Adds the word F, a text."""
+    made.add_argument("file", metavar="F", help="the configurations of the network, or - for standard input")
+
+
+def add_classes(made: argparse.ArgumentParser, told: str) -> None:
+    """Adds the option `--class N`, with what its help says of it."""
+    made.add_argument("--class", dest="numbers", metavar="N", type=a_class, action="append", help=told)
+
+
 def class_of(classes: list[Class], wanted: Wanted, name: str) -> Class:
     """The class of a number or a prefix; of an address the class with the longest prefix around it. Refused where the
     text of this name has none."""

@@ -10,7 +10,7 @@ import textwrap
 from collections.abc import Iterator
 from typing import Any
 
-from bonsainet.ask.accepted import Wanted, a_class, class_of
+from bonsainet.ask.accepted import Wanted, add_classes, add_text, class_of
 from bonsainet.cli.command_line import Refused, name_of, parser, read_input
 from bonsainet.configs.compressed import Asked, asked
 from bonsainet.document.build import document
@@ -27,15 +27,8 @@ def words() -> argparse.ArgumentParser:
         "bonsai-json",
         "Writes all classes of a network, with ties, groups and compressed networks, as one JSON document.",
     )
-    made.add_argument("file", metavar="F", help="the configurations of the network, or - for standard input")
-    made.add_argument(
-        "--class",
-        dest="numbers",
-        metavar="N",
-        type=a_class,
-        action="append",
-        help="only this class, by its number, a prefix or an address; may be repeated",
-    )
+    add_text(made)
+    add_classes(made, "only this class, by its number, a prefix or an address; may be repeated")
     made.add_argument("--no-ties", action="store_true", help="do not ask which routers hold a tied route")
     made.add_argument("--compact", action="store_true", help="write the document on one line")
     made.add_argument(

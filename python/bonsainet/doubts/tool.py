@@ -5,7 +5,7 @@ import argparse
 import json
 from collections.abc import Iterator
 
-from bonsainet.ask.accepted import Wanted, a_class, class_of
+from bonsainet.ask.accepted import Wanted, add_classes, add_text, class_of
 from bonsainet.cli.command_line import name_of, parser, printable, read_input
 from bonsainet.configs.compressed import Asked, asked
 from bonsainet.doubts.agreement import doubts_of_agreement
@@ -33,19 +33,12 @@ doubt is no fault: the status is 0."""
 def words() -> argparse.ArgumentParser:
     """The words of the command line."""
     made = parser("bonsai-doubts", PURPOSE)
-    made.add_argument("file", metavar="F", help="the configurations of the network, or - for standard input")
+    add_text(made)
     made.add_argument(
         "--folder", metavar="FOLDER", help="the folder that the text was imported from, for the links that it suggests"
     )
     add_skip(made)
-    made.add_argument(
-        "--class",
-        dest="numbers",
-        metavar="N",
-        type=a_class,
-        action="append",
-        help="ask for the ties and numbers of this class alone; may be repeated",
-    )
+    add_classes(made, "ask for the ties and numbers of this class alone; may be repeated")
     made.add_argument("--no-ties", action="store_true", help="ask neither for ties nor for numbers")
     made.add_argument("--json", action="store_true", help="write one JSON object")
     return made

@@ -8,7 +8,7 @@ import zlib
 
 import graphviz
 
-from bonsainet.ask.accepted import a_class
+from bonsainet.ask.accepted import a_class, add_text
 from bonsainet.cli.command_line import Refused, name_of, one_line, parser, printable, read_input, write_output
 from bonsainet.configs.compressed import Asked, Compressed, asked
 from bonsainet.drawing.graph import Graph, large, large_by_groups, small
@@ -23,7 +23,7 @@ FORMATS = ("dot", "svg", "png")
 def words() -> argparse.ArgumentParser:
     """The words of the command line."""
     made = parser("bonsai-draw", "Draws a network before and after compression, the large one beside the small one.")
-    made.add_argument("file", metavar="F", help="the configurations of the network, or - for standard input")
+    add_text(made)
     made.add_argument(
         "number",
         metavar="N",

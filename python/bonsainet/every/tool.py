@@ -5,7 +5,7 @@ import argparse
 import sys
 from pathlib import Path
 
-from bonsainet.ask.accepted import accepted_classes
+from bonsainet.ask.accepted import accepted_classes, add_text
 from bonsainet.cli.command_line import name_of, parser, read_input
 from bonsainet.every.jobs import Lock, Where, must_have_parallel, run
 from bonsainet.every.plan import PLAN, begin, make, plan
@@ -24,7 +24,7 @@ log of GNU parallel. An interrupted run goes on with --resume: it asks again eac
 def words() -> argparse.ArgumentParser:
     """The words of the command line."""
     made = parser("bonsai-every", PURPOSE)
-    made.add_argument("file", metavar="F", help="the configurations of the network, or - for standard input")
+    add_text(made)
     made.add_argument(
         "folder", metavar="DIR", type=Path, help="where the answers go: a folder that is empty or not there"
     )

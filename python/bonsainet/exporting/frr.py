@@ -6,6 +6,7 @@ and ospfd.
 from __future__ import annotations
 
 import re
+from collections.abc import Iterable
 from ipaddress import IPv4Network
 from itertools import product
 
@@ -17,12 +18,21 @@ from bonsainet.exporting.writer import (
     active_ends,
     is_default,
     linked_interfaces,
-    loopback_names,
     members_note,
+    named,
     prefix_range,
 )
 from bonsainet.configs.network import Network, is_in_area
-from bonsainet.configs.profile import AreaLine, Device, Interface, MapEntry, Neighbor, community_text
+from bonsainet.configs.profile import (
+    AreaLine,
+    CommunityLine,
+    Device,
+    Interface,
+    MapEntry,
+    Neighbor,
+    PrefixEntry,
+    community_text,
+)
 from bonsainet.configs.text import Line
 
 # The version of FRR that the exports are written for and were tried with.
@@ -96,16 +106,17 @@ def export(network: Network, with_lab_timers: bool = False) -> Exported:
     return exported
 
 
+def _action(line: PrefixEntry | CommunityLine) -> str:
+    return "permit" if line.is_permit else "deny"
+
+
 def interface_names(device: Device, linked: set[tuple[str, str]]) -> dict[str, str]:
     """The names of a device's interfaces in Linux."""
-    named = loopback_names(device, linked)
-    taken = {interface.name for interface in device.interfaces} | set(named.values())
-    for interface in device.interfaces:
-        name = interface.name
-        if name not in named:
-            named[name] = name if _is_linux_name(name) else _short_name(interface, taken)
-            taken.add(named[name])
-    return named
+
+    def name_of(interface: Interface, taken: set[str]) -> str:
+        return interface.name if _is_linux_name(interface.name) else _short_name(interface, taken)
+
+    return named(device, linked, name_of)
 
 
 def _is_linux_name(name: str) -> bool:
@@ -204,28 +215,34 @@ class _Router:
         writer.bare("!")
 
     def _lists(self) -> None:
-        writer = self.writer
         for name, entries in self.device.prefix_lists.items():
-            seen = set()
-            for entry in entries:
-                said = f"{'permit' if entry.is_permit else 'deny'} {entry.prefix}{prefix_range(entry)}"
-                if said in seen:
-                    writer.leave_out(entry.line, "repeated")
-                    continue
-                seen.add(said)
-                rule = "list-name" if self.lists[name] != name else "range"
-                writer.put(f"ip prefix-list {self.lists[name]} seq {entry.sequence} {said}", entry.line, rule)
-            writer.bare("!")
+            head, rule = f"ip prefix-list {self.lists[name]} seq", "list-name" if self.lists[name] != name else "range"
+            self._put_once(
+                (f"{head} {it.sequence}", f"{_action(it)} {it.prefix}{prefix_range(it)}", it.line, rule)
+                for it in entries
+            )
         for name, lines in self.device.community_lists.items():
-            seen = set()
-            for line in lines:
-                said = f"{'permit' if line.is_permit else 'deny'} {' '.join(map(community_text, sorted(line.communities)))}"
-                if said in seen:
-                    writer.leave_out(line.line, "repeated")
-                    continue
-                seen.add(said)
-                writer.put(f"bgp community-list standard {self.lists[name]} {said}", line.line, "community-list")
-            writer.bare("!")
+            head = f"bgp community-list standard {self.lists[name]}"
+            self._put_once(
+                (
+                    head,
+                    f"{_action(it)} {' '.join(map(community_text, sorted(it.communities)))}",
+                    it.line,
+                    "community-list",
+                )
+                for it in lines
+            )
+
+    def _put_once(self, lines: Iterable[tuple[str, str, Line, str]]) -> None:
+        """Writes the lines of a list: the head and what it says of each, its source and the rule. What was said is left out."""
+        seen = set()
+        for head, said, line, rule in lines:
+            if said in seen:
+                self.writer.leave_out(line, "repeated")
+                continue
+            seen.add(said)
+            self.writer.put(f"{head} {said}", line, rule)
+        self.writer.bare("!")
 
     def _maps(self) -> None:
         for name, entries in self.device.maps.items():

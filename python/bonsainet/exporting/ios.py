@@ -12,8 +12,8 @@ from bonsainet.exporting.writer import (
     active_ends,
     is_default,
     linked_interfaces,
-    loopback_names,
     members_note,
+    named,
     prefix_range,
 )
 from bonsainet.configs.network import Network, is_in_area
@@ -59,18 +59,16 @@ def export(network: Network, on_switches: bool = False) -> Exported:
 
 def interface_names(device: Device, linked: set[tuple[str, str]]) -> dict[str, str]:
     """The names of a device's interfaces: of a VLAN without a port a loopback's, of what links run over a port's."""
-    named = loopback_names(device, linked)
-    taken = {interface.name for interface in device.interfaces} | set(named.values())
-    for interface in device.interfaces:
-        if interface.name not in named:
-            named[interface.name] = interface.name
-            if interface.kind in WITHOUT_PORT and (device.name, interface.name) in linked:
-                number = 0
-                while f"GigabitEthernet0/{number}" in taken:
-                    number += 1
-                named[interface.name] = f"GigabitEthernet0/{number}"
-                taken.add(named[interface.name])
-    return named
+
+    def name_of(interface: Interface, taken: set[str]) -> str:
+        if interface.kind not in WITHOUT_PORT or (device.name, interface.name) not in linked:
+            return interface.name
+        number = 0
+        while f"GigabitEthernet0/{number}" in taken:
+            number += 1
+        return f"GigabitEthernet0/{number}"
+
+    return named(device, linked, name_of)
 
 
 def entry_numbers(sequences: list[int]) -> list[int]:

@@ -3,11 +3,11 @@ reason."""
 from __future__ import annotations
 
 import dataclasses
-from collections.abc import Iterable, Mapping
+from collections.abc import Callable, Iterable, Mapping
 
 from bonsainet.configs.change import Change
 from bonsainet.configs.network import Network
-from bonsainet.configs.profile import Device, PrefixEntry
+from bonsainet.configs.profile import Device, Interface, PrefixEntry
 from bonsainet.configs.text import Line
 
 MOST_OF_A_DESCRIPTION = 200
@@ -125,6 +125,20 @@ def loopback_names(device: Device, linked: set[tuple[str, str]]) -> dict[str, st
             named[interface.name] = f"Loopback{wanted}"
             taken.add(named[interface.name])
     return named
+
+
+def named(
+    device: Device, linked: set[tuple[str, str]], name_of: Callable[[Interface, set[str]], str]
+) -> dict[str, str]:
+    """The names of a device's interfaces: of a VLAN without a port a loopback's, of others what `name_of` makes of the
+    interface and the names that are taken."""
+    names = loopback_names(device, linked)
+    taken = {interface.name for interface in device.interfaces} | set(names.values())
+    for interface in device.interfaces:
+        if interface.name not in names:
+            names[interface.name] = name_of(interface, taken)
+            taken.add(names[interface.name])
+    return names
 
 
 def active_ends(network: Network) -> dict[tuple[str, str], int]:

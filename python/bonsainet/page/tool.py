@@ -8,6 +8,7 @@ from typing import Any
 
 import jinja2
 
+from bonsainet.ask.accepted import add_text
 from bonsainet.cli.command_line import Refused, name_of, parser, read_input, version, write_output
 from bonsainet.configs.compressed import asked
 from bonsainet.doubts.ties import ties_by_class
@@ -25,7 +26,7 @@ def words() -> argparse.ArgumentParser:
         "bonsai-page",
         "Writes one page with all classes of a network: a table, ties, pictures, groups, and the compressed texts.",
     )
-    made.add_argument("file", metavar="F", help="the configurations of the network, or - for standard input")
+    add_text(made)
     made.add_argument(
         "--import-report", metavar="FILE", help="show what bonsai-import told: its report, as text or as JSON"
     )

@@ -33,7 +33,7 @@ from pathlib import Path
 from bonsainet.cli import command_line
 from bonsainet.cli.command_line import Refused
 from bonsainet.repo.pages import Room, pages, quoted_in, run_shown, shown_in
-from bonsainet.ask.program import TOP
+from bonsainet.ask.program import TOP, Answer
 from bonsainet.ask.where import without_notices
 
 EXAMPLES = TOP / "examples"
@@ -43,25 +43,17 @@ AT_ONCE = 3
 MOST_SHOWN = 2000
 
 
-@dataclasses.dataclass(frozen=True)
-class Answer:
-    """What a command writes, and its status."""
-
-    out: bytes
-    err: bytes
-    status: int
-
-    def differences(self, found: Answer) -> list[str]:
-        """What differs in another answer, in words."""
-        pairs = ((name, getattr(self, name), getattr(found, name)) for name in ("out", "err", "status"))
-        return [
-            f"{name}: wanted {str(one)[:MOST_SHOWN]}, got {str(other)[:MOST_SHOWN]}"
-            for name, one, other in pairs
-            if one != other
-        ]
+def differences(wanted: Answer, found: Answer) -> list[str]:
+    """What differs in an answer from the one that is wanted, in words."""
+    pairs = ((name, getattr(wanted, name), getattr(found, name)) for name in ("out", "err", "status"))
+    return [
+        f"{name}: wanted {str(one)[:MOST_SHOWN]}, got {str(other)[:MOST_SHOWN]}"
+        for name, one, other in pairs
+        if one != other
+    ]
 
 
-STABLE, YES = Answer(b"stable\n", b"", 0), Answer(b"yes\n", b"", 0)
+STABLE, YES = Answer(0, b"stable\n", b""), Answer(0, b"yes\n", b"")
 
 
 @dataclasses.dataclass(frozen=True)
@@ -90,7 +82,7 @@ class Asked:
         ran = subprocess.run(
             [self.program, *words], cwd=INPUTS, stdin=subprocess.DEVNULL, capture_output=True, check=False
         )
-        return Answer(ran.stdout, without_notices(ran.stderr), ran.returncode)
+        return Answer(ran.returncode, ran.stdout, without_notices(ran.stderr))
 
     def written(self, folder: str, name: str, *words: str) -> str:
         """The file that has what these words write."""
@@ -100,7 +92,7 @@ class Asked:
 
     def command(self, name: str, *words: str) -> list[str]:
         """An answer is as kept."""
-        return kept(name).differences(self.answer(*words))
+        return differences(kept(name), self.answer(*words))
 
     def twice(self, text: str, number: str) -> list[str]:
         """Compressing again changes nothing."""
@@ -110,7 +102,7 @@ class Asked:
         with tempfile.TemporaryDirectory() as folder:
             Path(folder, "small.cfg").write_bytes(once.out)
             again = self.answer("compress", f"{folder}/small.cfg", "1")
-        return without_members(once).differences(without_members(again))
+        return differences(without_members(once), without_members(again))
 
     def canonical(self, text: str, number: str) -> list[str]:
         """Canonical maps do not depend on how maps were written."""
@@ -121,7 +113,7 @@ class Asked:
         with tempfile.TemporaryDirectory() as folder:
             for command in ("compress", "canon"):
                 small = self.written(folder, command, command, text, number)
-                faults += without_members(once).differences(without_members(self.answer("canon", small, "1")))
+                faults += differences(without_members(once), without_members(self.answer("canon", small, "1")))
         return faults
 
     def round(self, text: str, number: str, solution: str) -> list[str]:
@@ -130,8 +122,8 @@ class Asked:
             small = self.written(folder, "small.cfg", "compress", text, number)
             folded = self.written(folder, "folded", "fold", text, number, solution)
             lifted = self.written(folder, "lifted", "lift", text, number, folded)
-            return STABLE.differences(self.answer("check", small, "1", folded)) + STABLE.differences(
-                self.answer("check", text, number, lifted)
+            return differences(STABLE, self.answer("check", small, "1", folded)) + differences(
+                STABLE, self.answer("check", text, number, lifted)
             )
 
     def reaching(self, text: str, number: str, solution: str) -> list[str]:
@@ -153,7 +145,7 @@ class Asked:
         with tempfile.TemporaryDirectory() as folder:
             for number in range(1, self.answer("classes", text).out.count(b"\n") + 1):
                 certificate = self.written(folder, "certificate", "certify", text, str(number))
-                faults += YES.differences(self.answer("verify", text, str(number), certificate))
+                faults += differences(YES, self.answer("verify", text, str(number), certificate))
         return faults
 
     def json(self, text: str, number: str) -> list[str]:
@@ -183,7 +175,7 @@ def kept(name: str) -> Answer:
         path = ANSWERS / f"{name}.{ending}"
         return path.read_bytes() if path.exists() else default
 
-    return Answer(part("out", b""), part("err", b""), int(part("status", b"0")))
+    return Answer(int(part("status", b"0")), part("out", b""), part("err", b""))
 
 
 def keep(name: str, found: Answer) -> None:

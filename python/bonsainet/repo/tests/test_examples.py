@@ -132,11 +132,11 @@ def test_refusals(words: list[str]) -> None:
 
 def test_an_answer_is_kept(tmp_path: Path, monkeypatch: pytest.MonkeyPatch) -> None:
     monkeypatch.setattr(examples, "ANSWERS", tmp_path)
-    given = examples.Answer(b"", b"refused: line 1: BadForm\n", 1)
+    given = examples.Answer(1, b"", b"refused: line 1: BadForm\n")
     examples.keep("one", given)
     assert examples.kept("one") == given
     assert sorted(path.name for path in tmp_path.iterdir()) == ["one.err", "one.status"]
-    examples.keep("one", examples.Answer(b"a\n", b"", 0))
+    examples.keep("one", examples.Answer(0, b"a\n", b""))
     assert [path.name for path in tmp_path.iterdir()] == ["one.out"]
 
 
