@@ -1,6 +1,8 @@
 # Completion of bonsai in bash: commands, files, and the numbers of the classes of the file.
 _bonsai() {
+    # commands: begin (dev/manual writes this line from the launcher)
     local commands="classes groups compress canon check fold lift report json summary trial run reach certify verify"
+    # commands: end
     local word=${COMP_WORDS[COMP_CWORD]} command=${COMP_WORDS[1]}
     COMPREPLY=()
     case $COMP_CWORD in

@@ -105,6 +105,11 @@ def round_trip(words: list[str] | None = None) -> int:
     return start("round-trip", "bonsainet.lab.tools:round_trip", words)
 
 
+def commands(words: list[str] | None = None) -> int:
+    """Runs the part of `dev/manual` that goes by the launcher."""
+    return start("commands", "bonsainet.repo.commands:main", words)
+
+
 def sentences(words: list[str] | None = None) -> int:
     """Runs `dev/sentences`."""
     return start("sentences", "bonsainet.repo.sentences:main", words)
