@@ -20,6 +20,9 @@ SECRETS = {
     "key-string",
     "community",
     "pre-shared-key",
+    "server-key",
+    "wpa-psk",
+    "passphrase",
 }
 
 

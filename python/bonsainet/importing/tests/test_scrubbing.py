@@ -75,6 +75,13 @@ def test_nothing_secret_is_told_of_a_refused_line(tmp_path: Path) -> None:
         ("ip community-list standard X permit 1:1", "ip community-list standard X permit 1:1"),
         (" neighbor 10.0.0.1 send-community", " neighbor 10.0.0.1 send-community"),
         ("enable secret", "enable secret"),
+        ("ENABLE Secret x", "ENABLE Secret ..."),
+        (" wpa-psk ascii 0 x", " wpa-psk ..."),
+        (" client 10.0.0.1 server-key 7 x", " client 10.0.0.1 server-key ..."),
+        ("snmp-server user u g v3 auth md5 x priv aes 128 y", "snmp-server user u g ..."),
+        ("snmp-server engineID remote 10.0.0.1 x", "snmp-server engineID ..."),
+        (" path scp://user:x@10.0.0.1/y", " path ..."),
+        (" path scp://user@10.0.0.1/y", " path scp://user@10.0.0.1/y"),
         ("", ""),
     ],
 )
