@@ -56,6 +56,9 @@ def words() -> argparse.ArgumentParser:
         help="a file that keeps the program's answers, so that later runs over the same texts do not ask it again",
     )
     parser.add_argument("--text", type=Path, help="ask over this text alone, with --seed")
+    parser.add_argument(
+        "--only", type=int, metavar="NUMBER", help="ask over the text of this number alone, as a difference names it"
+    )
     return parser
 
 
@@ -72,6 +75,8 @@ def main(arguments: list[str] | None = None) -> int:
     if given.jobs < 1:
         parser.error("--jobs is at least 1")
     seed = given.seed if given.seed is not None else int.from_bytes(os.urandom(3), "big")
+    if given.only is not None:
+        return _told(running.differences(Asker(), running.text_of(given.only), given.only, Counts()))
     if given.text:
         return _alone(parser, given.text, seed)
     plan = running.Plan(
@@ -118,6 +123,10 @@ def _alone(parser: argparse.ArgumentParser, file: Path, seed: int) -> int:
         differ = running.differences(Asker(), file.read_bytes(), seed, Counts())
     except OSError as fault:
         parser.exit(3, f"hostile/run: {file}: {fault.strerror}\n")
+    return _told(differ)
+
+
+def _told(differ: list[running.Difference]) -> int:
     print(
         "\n".join(f"{one.command}: expected {one.expected}\nanswered {one.answered}" for one in differ)
         or "no difference"

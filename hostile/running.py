@@ -38,6 +38,7 @@ class Found:
     program_seconds: float = 0.0
     counts: Counts = dataclasses.field(default_factory=Counts)
     differences: list[str] = dataclasses.field(default_factory=list)
+    starts: list[int] = dataclasses.field(default_factory=list)
 
     def add(self, other: Found) -> None:
         """Takes what another job found to this."""
@@ -48,6 +49,7 @@ class Found:
         self.counts.commands += other.counts.commands
         self.counts.kinds += other.counts.kinds
         self.differences += other.differences
+        self.starts += other.starts
 
     @property
     def processor(self) -> float:
@@ -116,6 +118,11 @@ def _program(answers: Path | None) -> Asker:
     return KeptAsker(answers) if answers else Asker()
 
 
+def text_of(start: int) -> bytes:
+    """The text of a number."""
+    return makers.made(random.Random(start))
+
+
 def part_of_job(plan: Plan, number: int, turn: int, seconds: float) -> tuple[Found, int]:
     """A job's texts from a turn on, for some time, and the next turn. A difference ends it where the first is looked
     for."""
@@ -123,10 +130,11 @@ def part_of_job(plan: Plan, number: int, turn: int, seconds: float) -> tuple[Fou
     while time.monotonic() < until and not (plan.first and found.differences):
         turn += 1
         start = plan.seed * 1_000_003 + number * 100_000_007 + turn
-        text = makers.made(random.Random(start))
+        text = text_of(start)
         differ = differences(program, text, start, found.counts)
         found.runs += 1
         found.differences += [_kept(program, text, start, difference, plan) for difference in differ[:1]]
+        found.starts += [start for _ in differ[:1]]
     found.own_seconds, found.program_seconds = (after - before for after, before in zip(_used(), used))
     return found, turn
 
@@ -225,5 +233,6 @@ def report(found: Found, seconds: float, jobs: int) -> str:
         f"commands {found.asked}: {table(found.counts.commands)}",
         f"refusals and other ends: {table(found.counts.kinds)}",
         f"differences {len(found.differences)}: {' '.join(sorted(found.differences)) or 'none'}",
+        *(f"again: hostile/run --only {start}" for start in found.starts),
     ]
     return "\n".join(rows) + "\n"

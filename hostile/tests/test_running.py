@@ -17,7 +17,7 @@ from bonsainet.ask.program import TOP, Answer, Program
 
 def test_a_short_run_finds_no_difference(tmp_path: Path) -> None:
     """Twenty seconds, two jobs; the log has the counts that are printed."""
-    words = ["--seconds", "20", "--jobs", "2", "--keep", str(tmp_path), "--log", str(tmp_path / "log")]
+    words = ["--seconds", "20", "--jobs", "2", "--seed", "3", "--keep", str(tmp_path), "--log", str(tmp_path / "log")]
     ran = subprocess.run([str(TOP / "hostile" / "run"), *words], capture_output=True, text=True, check=False)
     assert ran.returncode == 0, ran.stdout + ran.stderr
     first, *_, last = map(json.loads, (tmp_path / "log").read_text().splitlines())
@@ -75,6 +75,8 @@ def test_a_difference_ends_a_run_and_is_kept(tmp_path: Path, monkeypatch: pytest
     monkeypatch.setattr(laws, "broken", lambda asked, text, seed: [])
     found, _ = running.run(running.Plan(5, 120, 1, tmp_path / "kept", first=True))
     assert len(found.differences) == 1 and found.differences[0].startswith("classes-")
+    assert f"again: hostile/run --only {found.starts[0]}\n" in running.report(found, 1.0, 1)
+    assert not running.differences(Asker(), running.text_of(found.starts[0]), found.starts[0], Counts())
     text, told = sorted((tmp_path / "kept").iterdir())
     assert (text.stem, told.stem) == (found.differences[0],) * 2 and text.read_bytes().count(b"\n") < 12
     seed = int(told.read_text().split()[1])
