@@ -155,7 +155,7 @@ def test_the_package_has_the_same_bytes_each_time(tmp_path: Path) -> None:
     assert made[0] == made[1]
 
 
-@pytest.mark.skipif(not shutil.which("lintian"), reason="no lintian here")
+@pytest.mark.skipif(not shutil.which("lintian"), reason="the package lintian is not there: no package is judged")
 def test_lintian_finds_no_error(tmp_path: Path) -> None:
     parts = parts_of(tmp_path)
     shutil.copy("/bin/true", parts.programs[0])
