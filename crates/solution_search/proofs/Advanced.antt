@@ -1,34 +1,33 @@
 -- What a look at the board comes to.
-use Rattle.std.proofs.Common.{◌≡◌, ◌⊎◌, ℕ, ◌<◌, Bool, false, All, List, [], ◌∷◌, ◌++◌, length, map, set, Option, Some, None, sym, ap, ◌∙◌, subst, inl, inr, arith, length-set}
+use Rattle.std.proofs.Common.{◌≡◌, ℕ, ◌^◌, ◌<◌, Bool, false, All, List, ◌∷◌, length, map, set, Option, Some, None, sym, ap, ◌∙◌, subst, arith, length-set}
 use Rattle.std.specs.Prelude.{is_some, slice_index_or}
 use Rattle.std.proofs.lemmas.List.Elements.{All-cons}
 use Rattle.srp_core.specs.declared.route.Route.{Route}
 use Rattle.srp_core.specs.Routes.{preference_of}
-use Rattle.srp_core.specs.Problem.{Problem, count, is_lone, IsProblem}
+use Rattle.srp_core.specs.Problem.{Problem, count, IsProblem}
 use Rattle.srp_core.specs.Stability.{label, IsCandidate}
+use Rattle.srp_core.specs.Weak.{IsWeaklyStable}
 use Rattle.solution_search.specs.declared.bests.Best.{Best}
 use Rattle.solution_search.specs.declared.board.Board.{Board}
-use Rattle.solution_search.specs.declared.board.Change.{Change}
-use Rattle.solution_search.specs.declared.board.Change.TheVariants.{Fork}
 use Rattle.solution_search.specs.declared.board.Tie.{Tie}
 use Rattle.solution_search.specs.declared.board.Wait.{Wait}
-use Rattle.solution_search.specs.declared.searching.Look.{Look}
-use Rattle.solution_search.specs.declared.searching.Look.TheVariants.{Settled, Dead, Solved}
+use Rattle.solution_search.specs.declared.sweeping.Look.{Look}
+use Rattle.solution_search.specs.declared.sweeping.Look.TheVariants.{Settled, Dead, Solved}
 use Rattle.solution_search.specs.declared.settling.Outcome.{Outcome}
 use Rattle.solution_search.specs.declared.settling.Outcome.TheVariants.{Fine, Upset}
-use Rattle.solution_search.specs.Boards.{State, state_of, case_of, best_at, is_tied, waits_for, pending, pending_of, pending_cases, cases_of, IsState, IsBoard}
+use Rattle.solution_search.specs.Boards.{State, state_of, case_of, best_at, is_tied, waits_for, pending_of, pending_cases, cases_of, IsState, IsBoard}
 use Rattle.solution_search.specs.Burdens.{burden}
-use Rattle.solution_search.specs.Cases.{Case, IsNext, IsSure, taken, AreUnbeaten, IsBeaten, HasOneKey, HasNoTie}
-use Rattle.solution_search.specs.Looks.{IsLeast, IsClosed, HasOffered, HasNoneOffered}
+use Rattle.solution_search.specs.Cases.{Case, IsOpen, IsNext, taken, AreUnbeaten, IsBeaten, HasOneKey, HasNoTie, IsCase, Admits}
+use Rattle.solution_search.specs.Looks.{IsClosed, HasOffered, HasNoneOffered}
 use Rattle.solution_search.specs.Search.{IsSearched}
 use Rattle.solution_search.specs.Settled.{ComesTo, HasSettled}
-use Rattle.solution_search.specs.Steps.{Forks, IsPutOff, Looked, left_over, IsLeft}
+use Rattle.solution_search.specs.Steps.{IsPutOff, Looked, left_over, IsLeft, Steps}
 use Rattle.solution_search.proofs.Burden.{settled_lighter, forked_lighter, waiting_lighter, dropped_lighter}
 use Rattle.solution_search.proofs.Compared.{holds_by}
 use Rattle.solution_search.proofs.Following.{settled, forked, settled_beaten, forked_beaten, dead, solved}
-use Rattle.solution_search.proofs.Opened.{Next, is_next, is_at_end, offered, none_offered}
-use Rattle.solution_search.proofs.Pending.{pending_last, pending_kept}
-use Rattle.solution_search.proofs.Taking.{not_lone_sure}
+use Rattle.solution_search.proofs.Opened.{is_at_end, offered, none_offered}
+use Rattle.solution_search.proofs.CaseEnds.{dead_end}
+use Rattle.solution_search.proofs.Taking.{IsMet}
 
 -- a look after a router was settled
 abbrev pub look_of : Outcome → Look
@@ -105,12 +104,16 @@ module _ (P : Problem) (good : IsProblem P) (board : Board) (rules : IsBoard P b
   pub solved_lighter : burden (left_over board Solved) < burden (cases_of board)
   solved_lighter = dropped_lighter (case_of (state_of board)) (pending_cases board)
 
-  pub dead_looked : IsClosed (state_of board) (count P) → HasOffered (state_of board) (count P) → (found : List (List (Option Route))) →
+  pub dead_looked : (IsCase P (case_of (state_of board)) → (L : List (Option Route)) → IsWeaklyStable P L → ¬ Admits P (case_of (state_of board)) L) → (found : List (List (Option Route))) →
       IsSearched P found (cases_of board) (is_tied board) → Looked P found board Dead
-  dead_looked closed has found searched =
+  dead_looked never found searched = dead P good found (case_of (state_of board)) (pending_cases board) (is_tied board) searched never
+
+  -- no router is open, and one has an offer and no label
+  pub none_open : IsClosed (state_of board) (count P) → HasOffered (state_of board) (count P) → IsCase P (case_of (state_of board)) →
+      (L : List (Option Route)) → IsWeaklyStable P L → ¬ Admits P (case_of (state_of board)) L
+  none_open closed has is_case L w =
       let o = offered P good (is_tied board) (state_of board) rules.state has in
-      dead P good found (case_of (state_of board)) (pending_cases board) (is_tied board) searched
-      (is_at_end P good (is_tied board) (state_of board) rules.state closed) o.0 o.1.0 o.1.1
+      dead_end P good (case_of (state_of board)) is_case (is_at_end P good (is_tied board) (state_of board) rules.state closed) o.0 o.1.0 o.1.1 L w
 
   pub solved_looked : HasNoneOffered (state_of board) (count P) → (found : List (List (Option Route))) →
       IsSearched P found (cases_of board) (is_tied board) → Looked P found board Solved
@@ -120,60 +123,50 @@ module _ (P : Problem) (good : IsProblem P) (board : Board) (rules : IsBoard P b
 
 -- ---- a router was settled
 
--- what the board has put off after a step, and why
-data PutOff (P : Problem) (old new : Board) (u : ℕ) (best : Best) : Type 0 where
-  nothing_more : pending_of new ≡ pending_of old → IsSure P (case_of (state_of old)) u (preference_of best.route) → PutOff P old new u best
-  one_more : pending_of new ≡ waits_for (record { router = u; preference = preference_of best.route }) (state_of old) ∷ pending_of old → PutOff P old new u best
+-- the take leads to the labels that the case admits
+abbrev pub Leads : Problem → Case → ℕ → Route → Type 0
+Leads P case u d = IsCase P case → (L : List (Option Route)) → IsMet P case u d L → Admits P case L → Admits P (taken case u d) L
 
-module _ (P : Problem) (good : IsProblem P) (old mid new : Board) (rules : IsBoard P old) (u : ℕ) (least : IsLeast (state_of old) (count P) u) (best : Best)
-    (is_best : best_at old.bests.items u ≡ Some best) (forks : Forks P old mid u best) (outcome : Outcome) (step : HasSettled P mid new u best outcome) where
+-- what the board has put off after a step, and why
+pub data PutOff (P : Problem) (old new : Board) (u : ℕ) (best : Best) : Type 0 where
+  nothing_more : pending_of new ≡ pending_of old → Leads P (case_of (state_of old)) u best.route → PutOff P old new u best
+  one_more : pending_of new ≡ waits_for (record { router = u; preference = preference_of best.route }) (state_of old) ∷ pending_of old →
+      IsNext P (case_of (state_of old)) u best.route → preference_of best.route < 2 ^ 32 → PutOff P old new u best
+
+-- the router that is settled, and its best offer
+pub record Takeable (P : Problem) (old : Board) (u : ℕ) (best : Best) : Type 0 where
+  pub is_open : IsOpen P (case_of (state_of old)) u best.route
+  pub inside : u < count P
+  pub is_best : best_at old.bests.items u ≡ Some best
+
+module _ (P : Problem) (good : IsProblem P) (old mid new : Board) (rules : IsBoard P old) (u : ℕ) (best : Best) (takeable : Takeable P old u best)
+    (same_state : state_of mid ≡ state_of old) (same_tie : mid.tie ≡ old.tie) (outcome : Outcome) (step : HasSettled P mid new u best outcome)
+    (put_off : PutOff P old new u best) where
   abbrev before : Case
   before = case_of (state_of old)
 
   abbrev wait : Wait
   wait = record { router = u; preference = preference_of best.route }
 
-  next : Next P (state_of old) u
-  next = is_next P good (is_tied old) (state_of old) rules.state u least
-
-  same_best : next.best ≡ best
-  same_best = let k = next.is_known in cc
-
-  is_the_next : IsNext P before u best.route
-  is_the_next = subst (λ (b : Best). IsNext P before u b.route) same_best next.next
+  opened : IsOpen P before u best.route
+  opened = takeable.is_open
 
   kept : is_tied new ≡ false → is_tied old ≡ false
-  kept e = ap (λ (t : Option Tie). is_some t) (sym forks.tie) ∙ step.tied e
+  kept e = ap (λ (t : Option Tie). is_some t) (sym same_tie) ∙ step.tied e
 
   known_mid : IsState P (is_tied mid) (state_of mid)
-  known_mid = subst (λ (t : Option Tie). IsState P (is_some t) (state_of mid)) (sym forks.tie)
-      (subst (IsState P (is_tied old)) (sym forks.state) rules.state)
+  known_mid = subst (λ (t : Option Tie). IsState P (is_some t) (state_of mid)) (sym same_tie) (subst (IsState P (is_tied old)) (sym same_state) rules.state)
 
   came : ComesTo P (is_tied new) (state_of new) outcome
   came = step.comes known_mid
 
   same_labels : new.labels ≡ set old.labels u (Some best.route)
-  same_labels = step.labels ∙ ap (λ (s : State). set s.labels u (Some best.route)) forks.state
+  same_labels = step.labels ∙ ap (λ (s : State). set s.labels u (Some best.route)) same_state
 
-  same_case : case_of (state_of new) ≡ taken before u best.route
+  pub same_case : case_of (state_of new) ≡ taken before u best.route
   same_case =
-      let w = step.waits ∙ ap (λ (s : State). s.waits) forks.state in
+      let w = step.waits ∙ ap (λ (s : State). s.waits) same_state in
       λ i. record { labels = same_labels i; waits = w i }
-
-  put_off_new : PutOff P old new u best
-  put_off_new = by forks.changes
-    where
-      at_mid : (changes : List Change) → mid.changes.items ≡ changes → pending_of new ≡ pending changes (state_of old)
-      at_mid changes e = pending_kept mid new step.goes ∙ ap (λ (l : List Change). pending l (state_of mid)) e ∙ ap (pending changes) forks.state
-
-      sure : (is_lone P u ≡ false) ⊎ IsSure P before u (preference_of best.route) → IsSure P before u (preference_of best.route)
-      sure (inl l) = not_lone_sure P good before u best.route rules.state.knows.fitting is_the_next.is_open.best.offer l
-      sure (inr s) = s
-
-      by : ((mid.changes.items ≡ old.changes.items) × ((is_lone P u ≡ false) ⊎ IsSure P before u (preference_of best.route)))
-          ⊎ (mid.changes.items ≡ old.changes.items ++ Fork wait ∷ []) → PutOff P old new u best
-      by (inl same) = nothing_more (at_mid old.changes.items same.0) (sure same.1)
-      by (inr more) = one_more (at_mid (old.changes.items ++ Fork wait ∷ []) more ∙ pending_last old.changes.items (Fork wait) (state_of old))
 
   same_cases : (states : List State) → pending_of new ≡ states → cases_of new ≡ taken before u best.route ∷ map case_of states
   same_cases states e = ap (λ (c : Case). c ∷ pending_cases new) same_case ∙ ap (λ (l : List State). taken before u best.route ∷ map case_of l) e
@@ -182,11 +175,11 @@ module _ (P : Problem) (good : IsProblem P) (old mid new : Board) (rules : IsBoa
   same_pending states e = ap (λ (l : List State). map case_of l) e
 
   no_tie_of_best : is_tied new ≡ false → HasOneKey P before u best.route
-  no_tie_of_best e = one_key P (is_tied old) (state_of old) rules.state u best next.inside next.unsettled is_best (step.untied e)
+  no_tie_of_best e = one_key P (is_tied old) (state_of old) rules.state u best takeable.inside opened.best.offer.unsettled takeable.is_best (step.untied e)
 
   -- what has been searched then
-  pub stepped_looked : (found : List (List (Option Route))) → IsSearched P found (cases_of old) (is_tied old) → Looked P found new (look_of outcome)
-  stepped_looked found searched = by outcome came put_off_new
+  stepped_looked : (found : List (List (Option Route))) → IsSearched P found (cases_of old) (is_tied old) → Looked P found new (look_of outcome)
+  stepped_looked found searched = by outcome came put_off
     where
       calm : IsState P (is_tied new) (state_of new) → AreUnbeaten P (taken before u best.route).labels
       calm state = subst (AreUnbeaten P) same_labels (unbeaten P (is_tied new) (state_of new) state)
@@ -195,51 +188,59 @@ module _ (P : Problem) (good : IsProblem P) (old mid new : Board) (rules : IsBoa
       calm_tie state e = subst (HasNoTie P) same_labels (untied P (is_tied new) (state_of new) state e)
 
       by : (o : Outcome) → ComesTo P (is_tied new) (state_of new) o → PutOff P old new u best → Looked P found new (look_of o)
-      by Fine state (nothing_more e sure) = subst (λ (c : List Case). IsSearched P found c (is_tied new)) (sym (same_cases (pending_of old) e))
-          (settled P good found before (pending_cases old) (is_tied old) searched u best.route is_the_next (is_tied new) kept sure (calm state)
-          (calm_tie state))
-      by Fine state (one_more e) = subst (λ (c : List Case). IsSearched P found c (is_tied new)) (sym (same_cases (waits_for wait (state_of old) ∷ pending_of old) e))
-          (forked P good found before (pending_cases old) (is_tied old) searched u best.route is_the_next (is_tied new) kept (calm state) (calm_tie state))
-      by Upset beaten (nothing_more e sure) = subst (λ (c : List Case). IsSearched P found c (is_tied new)) (sym (same_pending (pending_of old) e))
-          (settled_beaten P good found before (pending_cases old) (is_tied old) searched u best.route is_the_next (is_tied new) kept sure
+      by Fine state (nothing_more e leads) = subst (λ (c : List Case). IsSearched P found c (is_tied new)) (sym (same_cases (pending_of old) e))
+          (settled P good found before (pending_cases old) (is_tied old) searched u best.route opened (is_tied new) kept leads (calm state) (calm_tie state))
+      by Fine state (one_more e next few) =
+          subst (λ (c : List Case). IsSearched P found c (is_tied new)) (sym (same_cases (waits_for wait (state_of old) ∷ pending_of old) e))
+          (forked P good found before (pending_cases old) (is_tied old) searched u best.route next (is_tied new) kept (calm state) (calm_tie state))
+      by Upset beaten (nothing_more e leads) = subst (λ (c : List Case). IsSearched P found c (is_tied new)) (sym (same_pending (pending_of old) e))
+          (settled_beaten P good found before (pending_cases old) (is_tied old) searched u best.route opened (is_tied new) kept leads
           (subst (IsBeaten P (is_tied new)) same_labels beaten) no_tie_of_best)
-      by Upset beaten (one_more e) = subst (λ (c : List Case). IsSearched P found c (is_tied new)) (sym (same_pending (waits_for wait (state_of old) ∷ pending_of old) e))
-          (forked_beaten P good found before (pending_cases old) (is_tied old) searched u best.route is_the_next (is_tied new) kept
+      by Upset beaten (one_more e next few) =
+          subst (λ (c : List Case). IsSearched P found c (is_tied new)) (sym (same_pending (waits_for wait (state_of old) ∷ pending_of old) e))
+          (forked_beaten P good found before (pending_cases old) (is_tied old) searched u best.route next (is_tied new) kept
           (subst (IsBeaten P (is_tied new)) same_labels beaten) no_tie_of_best)
 
   -- what the board knows then
-  pub stepped_left : IsLeft P new (look_of outcome)
+  stepped_left : IsLeft P new (look_of outcome)
   stepped_left = by outcome came
     where
       known_pending : PutOff P old new u best → All (IsState P (is_tied new)) (pending_of new)
-      known_pending (nothing_more e sure) = subst (All (IsState P (is_tied new))) (sym e)
+      known_pending (nothing_more e leads) = subst (All (IsState P (is_tied new))) (sym e)
           (all_known P (is_tied old) (is_tied new) kept (pending_of old) rules.pending)
-      known_pending (one_more e) = subst (All (IsState P (is_tied new))) (sym e)
+      known_pending (one_more e next few) = subst (All (IsState P (is_tied new))) (sym e)
           (All-cons (IsState P (is_tied new)) (waits_for wait (state_of old)) (pending_of old)
           (known_on P (is_tied old) (waits_for wait (state_of old)) (known_waiting P (is_tied old) (state_of old) rules.state wait) (is_tied new) kept)
           (all_known P (is_tied old) (is_tied new) kept (pending_of old) rules.pending))
 
       by : (o : Outcome) → ComesTo P (is_tied new) (state_of new) o → IsLeft P new (look_of o)
-      by Fine state = record { fits = step.fits; state = state; pending = known_pending put_off_new }
-      by Upset beaten = record { fits = step.fits; pending = known_pending put_off_new }
+      by Fine state = record { fits = step.fits; state = state; pending = known_pending put_off }
+      by Upset beaten = record { fits = step.fits; pending = known_pending put_off }
 
   -- less is left to be followed
-  pub stepped_lighter : burden (left_over new (look_of outcome)) < burden (cases_of old)
-  stepped_lighter = by outcome put_off_new
+  stepped_lighter : burden (left_over new (look_of outcome)) < burden (cases_of old)
+  stepped_lighter = by outcome put_off
     where
       inside_labels : u < length before.labels
-      inside_labels = let i = next.inside in let l = rules.fits.labels in omega (arith, i, l)
+      inside_labels = let i = takeable.inside in let l = rules.fits.labels in omega (arith, i, l)
 
       inside_waits : u < length before.waits
-      inside_waits = let i = next.inside in let l = rules.fits.waits in omega (arith, i, l)
+      inside_waits = let i = takeable.inside in let l = rules.fits.waits in omega (arith, i, l)
+
+      unsettled : label before.labels u ≡ None
+      unsettled = opened.best.offer.unsettled
 
       by : (o : Outcome) → PutOff P old new u best → burden (left_over new (look_of o)) < burden (cases_of old)
-      by Fine (nothing_more e sure) = subst (λ (c : List Case). burden c < burden (cases_of old)) (sym (same_cases (pending_of old) e))
-          (settled_lighter before (pending_cases old) u best.route inside_labels next.unsettled)
-      by Fine (one_more e) = subst (λ (c : List Case). burden c < burden (cases_of old)) (sym (same_cases (waits_for wait (state_of old) ∷ pending_of old) e))
-          (forked_lighter before (pending_cases old) u (preference_of best.route) best.route inside_labels next.unsettled inside_waits forks.few
-          is_the_next.is_open.above)
-      by Upset (nothing_more e sure) = subst (λ (c : List Case). burden c < burden (cases_of old)) (sym (same_pending (pending_of old) e))
+      by Fine (nothing_more e leads) = subst (λ (c : List Case). burden c < burden (cases_of old)) (sym (same_cases (pending_of old) e))
+          (settled_lighter before (pending_cases old) u best.route inside_labels unsettled)
+      by Fine (one_more e next few) =
+          subst (λ (c : List Case). burden c < burden (cases_of old)) (sym (same_cases (waits_for wait (state_of old) ∷ pending_of old) e))
+          (forked_lighter before (pending_cases old) u (preference_of best.route) best.route inside_labels unsettled inside_waits few opened.above)
+      by Upset (nothing_more e leads) = subst (λ (c : List Case). burden c < burden (cases_of old)) (sym (same_pending (pending_of old) e))
           (dropped_lighter before (pending_cases old))
-      by Upset (one_more e) = subst (λ (c : List Case). burden c < burden (cases_of old)) (sym (same_pending (waits_for wait (state_of old) ∷ pending_of old) e))
-          (waiting_lighter before (pending_cases old) u (preference_of best.route) inside_waits forks.few is_the_next.is_open.above)
+      by Upset (one_more e next few) =
+          subst (λ (c : List Case). burden c < burden (cases_of old)) (sym (same_pending (waits_for wait (state_of old) ∷ pending_of old) e))
+          (waiting_lighter before (pending_cases old) u (preference_of best.route) inside_waits few opened.above)
+
+  pub stepped : Steps P old new (look_of outcome)
+  stepped = record { left = stepped_left; lighter = stepped_lighter; looked = stepped_looked }

@@ -12,11 +12,11 @@ use Rattle.srp_core.specs.Stability.{IsStable}
 use Rattle.srp_core.specs.Weak.{IsWeaklyStable}
 use Rattle.srp_core.specs.Solutions.{HaveEqualKeys, AreAllSolutions, HoldsHoweverTiesBreak}
 use Rattle.srp_core.proofs.Filling.{nothing}
-use Rattle.solution_search.specs.Cases.{Case, IsOffer, IsNext, IsSure, taken, waiting, AreUnbeaten, IsBeaten, HasOneKey, HasNoTie, IsCase, Admits, IsAtEnd, start_of}
+use Rattle.solution_search.specs.Cases.{Case, IsOffer, IsOpen, IsNext, taken, waiting, AreUnbeaten, IsBeaten, HasOneKey, HasNoTie, IsCase, Admits, start_of}
 use Rattle.solution_search.specs.Search.{HasCaseFor, AreApart, IsSearched}
 use Rattle.solution_search.proofs.Carried.{stable_weak}
-use Rattle.solution_search.proofs.Taking.{IsMet, stably, weakly, taken_case, waiting_case, one_key, taken_within, waiting_within, fork_apart, beaten_stable, beaten_weak, fork_admits, sure_admits}
-use Rattle.solution_search.proofs.CaseEnds.{keys_back, admits_same, dead_end, end_stable, end_admits_itself, keys_at_end, forwards_at_end, forwarded_at_end}
+use Rattle.solution_search.proofs.Taking.{IsMet, stably, weakly, taken_case, waiting_case, one_key, taken_within, waiting_within, fork_apart, beaten_stable, beaten_weak, fork_admits}
+use Rattle.solution_search.proofs.CaseEnds.{keys_back, admits_same, end_stable, end_admits_itself, keys_at_end, forwards_at_end, forwarded_at_end}
 
 -- ---- lists
 
@@ -145,23 +145,38 @@ module _ (P : Problem) (good : IsProblem P) where
     rules : IsCase P case
     rules = searched.rules case (head_in case cases)
 
+    -- the router takes its best offer, which leads to the labels that the case admits
+    module _ (u : ℕ) (d : Route) (opened : IsOpen P case u d) (tied' : Bool) (kept : tied' ≡ false → tied ≡ false)
+        (leads : IsCase P case → (L : List (Option Route)) → IsMet P case u d L → Admits P case L → Admits P (taken case u d) L) where
+      -- the router is settled
+      pub settled : AreUnbeaten P (taken case u d).labels → (tied' ≡ false → HasNoTie P (taken case u d).labels) →
+          IsSearched P found (taken case u d ∷ cases) tied'
+      settled unbeaten untied = follow found case cases (taken case u d ∷ []) tied tied' searched kept (record {
+        rules = only (taken case u d) (IsCase P) (taken_case P good case rules u d opened unbeaten);
+        untied = λ e. only (taken case u d) (λ c. HasNoTie P c.labels) (untied e);
+        apart = ((λ other L i a. absurd (in_contains [] other i)), tt);
+        within = λ c L i. only (taken case u d) (λ x. Admits P x L → Admits P case L) (taken_within P good case rules u d opened L) c i;
+        stable = λ L st a. one_case (taken case u d) L (leads rules L (stably st) a);
+        weak = λ e L w a. one_case (taken case u d) L (leads rules L (weakly w (one_key P good case rules u d opened (untied e))) a);
+      })
+
+      -- the router is settled, and a label is beaten
+      pub settled_beaten : IsBeaten P tied' (taken case u d).labels → (tied' ≡ false → HasOneKey P case u d) →
+          IsSearched P found cases tied'
+      settled_beaten beaten one = follow found case cases [] tied tied' searched kept (record {
+        rules = none_of (IsCase P);
+        untied = λ e. none_of (λ c. HasNoTie P c.labels);
+        apart = tt;
+        within = λ c L i. absurd (in_contains [] c i);
+        stable = λ L st a. absurd (beaten_stable P good case rules u d opened tied' beaten L st
+            (leads rules L (stably st) a));
+        weak = λ e L w a. absurd (beaten_weak P good case rules u d opened tied' beaten e L w
+            (leads rules L (weakly w (one e)) a));
+      })
+
     module _ (u : ℕ) (d : Route) (next : IsNext P case u d) (tied' : Bool) (kept : tied' ≡ false → tied ≡ false) where
       met : HasOneKey P case u d → (L : List (Option Route)) → IsWeaklyStable P L → IsMet P case u d L
       met one L w = weakly w one
-
-      -- the router is settled
-      pub settled : IsSure P case u (preference_of d) → AreUnbeaten P (taken case u d).labels → (tied' ≡ false → HasNoTie P (taken case u d).labels) →
-          IsSearched P found (taken case u d ∷ cases) tied'
-      settled sure unbeaten untied = follow found case cases (taken case u d ∷ []) tied tied' searched kept (record {
-        rules = only (taken case u d) (IsCase P) (taken_case P good case rules u d next.is_open unbeaten);
-        untied = λ e. only (taken case u d) (λ c. HasNoTie P c.labels) (untied e);
-        apart = ((λ other L i a. absurd (in_contains [] other i)), tt);
-        within = λ c L i. only (taken case u d) (λ x. Admits P x L → Admits P case L) (taken_within P good case rules u d next.is_open L) c i;
-        stable = λ L st a. one_case (taken case u d) L
-            (sure_admits P good case rules u d next.is_open next.smallest sure L (stably st) a);
-        weak = λ e L w a. one_case (taken case u d) L
-            (sure_admits P good case rules u d next.is_open next.smallest sure L (met (one_key P good case rules u d next.is_open (untied e)) L w) a);
-      })
 
       -- the router is settled, or waits
       pub forked : AreUnbeaten P (taken case u d).labels → (tied' ≡ false → HasNoTie P (taken case u d).labels) →
@@ -193,20 +208,6 @@ module _ (P : Problem) (good : IsProblem P) where
             admits = a;
           }
 
-      -- the router is settled, and a label is beaten
-      pub settled_beaten : IsSure P case u (preference_of d) → IsBeaten P tied' (taken case u d).labels → (tied' ≡ false → HasOneKey P case u d) →
-          IsSearched P found cases tied'
-      settled_beaten sure beaten one = follow found case cases [] tied tied' searched kept (record {
-        rules = none_of (IsCase P);
-        untied = λ e. none_of (λ c. HasNoTie P c.labels);
-        apart = tt;
-        within = λ c L i. absurd (in_contains [] c i);
-        stable = λ L st a. absurd (beaten_stable P good case rules u d next.is_open tied' beaten L st
-            (sure_admits P good case rules u d next.is_open next.smallest sure L (stably st) a));
-        weak = λ e L w a. absurd (beaten_weak P good case rules u d next.is_open tied' beaten e L w
-            (sure_admits P good case rules u d next.is_open next.smallest sure L (met (one e) L w) a));
-      })
-
       -- the router waits, since a label would be beaten if it were settled
       pub forked_beaten : IsBeaten P tied' (taken case u d).labels → (tied' ≡ false → HasOneKey P case u d) →
           IsSearched P found (waiting case u (preference_of d) ∷ cases) tied'
@@ -229,15 +230,15 @@ module _ (P : Problem) (good : IsProblem P) where
           other L never (inl a) = absurd (never a)
           other L never (inr a) = a
 
-    -- no router is open, and one has an offer and no label
-    pub dead : IsAtEnd P case → (u : ℕ) (c : Route) → IsOffer P case u c → IsSearched P found cases tied
-    dead end u c offer = follow found case cases [] tied tied searched (λ e. e) (record {
+    -- the case admits no labels that count
+    pub dead : (IsCase P case → (L : List (Option Route)) → IsWeaklyStable P L → ¬ Admits P case L) → IsSearched P found cases tied
+    dead never = follow found case cases [] tied tied searched (λ e. e) (record {
       rules = none_of (IsCase P);
       untied = λ e. none_of (λ x. HasNoTie P x.labels);
       apart = tt;
       within = λ x L i. absurd (in_contains [] x i);
-      stable = λ L st a. absurd (dead_end P good case rules end u c offer L (stable_weak P good L st) a);
-      weak = λ e L w a. absurd (dead_end P good case rules end u c offer L w a);
+      stable = λ L st a. absurd (never rules L (stable_weak P good L st) a);
+      weak = λ e L w a. absurd (never rules L w a);
     })
 
     module _ (left : (u : ℕ) (c : Route) → ¬ IsOffer P case u c) where

@@ -18,3 +18,9 @@ mod Started
 mod Turning
 mod Adding
 mod Stepping
+mod Avoiding
+mod Clearing
+mod Outlooking
+mod Imaging
+mod Owned
+mod SweptSoFar

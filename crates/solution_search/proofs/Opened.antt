@@ -1,7 +1,7 @@
 -- Which routers are open in the case of a board.
-use Rattle.std.proofs.Common.{◌≡◌, ℕ, ◌<◌, Bool, true, false, cond, Option, Some, None, refl, sym, ap, ◌∙◌, subst, arith}
+use Rattle.std.proofs.Common.{◌≡◌, ℕ, ◌<◌, ◌≤◌, Bool, true, false, cond, Option, Some, None, refl, sym, ap, ◌∙◌, subst, inl, inr, arith}
 use Rattle.std.specs.Prelude.{◌&&◌, is_some, is_none}
-use Rattle.std.proofs.lemmas.Bool.{lt-ltb, ltb-true}
+use Rattle.std.proofs.lemmas.Bool.{cases_lt, lt-ltb, ltb-true}
 use Rattle.srp_core.specs.declared.route.Route.{Route}
 use Rattle.srp_core.specs.Routes.{preference_of, size_of, Key}
 use Rattle.srp_core.specs.Problem.{Problem, count, key_of, IsProblem}
@@ -13,12 +13,13 @@ use Rattle.solution_search.specs.Boards.{State, best_at, case_of, IsState}
 use Rattle.solution_search.specs.Cases.{waits_above, IsOffer, IsBestOffer, IsAbove, IsOpen, IsNext, IsAtEnd}
 use Rattle.solution_search.specs.Looks.{is_above, open_size_by, open_size, IsLeast, IsClosed, is_offered, HasOffered, HasNoneOffered}
 use Rattle.solution_search.proofs.Carried.{candidate_in}
+use Rattle.solution_search.proofs.WeakOrder.{IsNoWorse, higher, not_longer, no_worse}
 
 above_is : (o : Option ℕ) (p : ℕ) → is_above o p ≡ true → IsAbove o p
 above_is None p t = tt
 above_is (Some awaited) p t = ltb-true awaited p t
 
-is_above_of : (o : Option ℕ) (p : ℕ) → IsAbove o p → is_above o p ≡ true
+pub is_above_of : (o : Option ℕ) (p : ℕ) → IsAbove o p → is_above o p ≡ true
 is_above_of None p a = refl
 is_above_of (Some awaited) p a = lt-ltb awaited p a
 
@@ -50,6 +51,23 @@ open_by : (label : Option Route) (awaited : Option ℕ) (known : Option Best) (b
 open_by label awaited known best e k a =
     ap (λ (o : Option Route). open_size_by o awaited known) e ∙ ap (open_size_by None awaited) k
     ∙ ap (λ (b : Bool). cond b (Some (size_of best.route)) None) (is_above_of awaited (preference_of best.route) a)
+
+-- a best offer that does not open its router: the router waits for a preference above that
+closed_by : (awaited : Option ℕ) (best : Best) → is_some (open_size_by None awaited (Some best)) ≡ false →
+    (p : ℕ) × (awaited ≡ Some p) × (preference_of best.route ≤ p)
+closed_by None best f = absurd (cc)
+closed_by (Some a) best f = elim (cases_lt a (preference_of best.route)) [
+  | inr le ↦ (a, refl, le)
+  | inl less ↦
+      let t = lt-ltb a (preference_of best.route) less in
+      let o : open_size_by None (Some a) (Some best) ≡ Some (size_of best.route) = ap (λ (b : Bool). cond b (Some (size_of best.route)) None) t in
+      let s : is_some (open_size_by None (Some a) (Some best)) ≡ true = ap (λ (x : Option ℕ). is_some x) o in
+      absurd (cc)
+]
+
+is_some_of : (o : Option ℕ) → is_some o ≡ true → (n : ℕ) × (o ≡ Some n)
+is_some_of None e = absurd (cc)
+is_some_of (Some n) e = (n, refl)
 
 -- the next router and its best offer
 pub record Next (P : Problem) (state : State) (u : ℕ) : Type 0 where
@@ -119,6 +137,48 @@ module _ (P : Problem) (good : IsProblem P) (tied : Bool) (state : State) (known
         let none = closed.closed u (candidate_in P good state.labels u c opened.best.offer.candidate) in
         let both : None ≡ Some (size_of c) = sym none ∙ found in absurd (cc));
   }
+
+  -- ---- a router without a label that has an offer
+
+  -- its best offer
+  pub best_known : (u : ℕ) → is_offered state u ≡ true → (label state.labels u ≡ None) × ((best : Best) × (best_at state.bests u ≡ Some best))
+  best_known u t = by (label state.labels u) (best_at state.bests u) refl refl t
+    where
+      by : (l : Option Route) (o : Option Best) → label state.labels u ≡ l → best_at state.bests u ≡ o → (is_none l && is_some o) ≡ true →
+          (label state.labels u ≡ None) × ((best : Best) × (best_at state.bests u ≡ Some best))
+      by (Some r) o e f t = absurd (cc)
+      by None None e f t = absurd (cc)
+      by None (Some best) e f t = (e, (best, f))
+
+  module _ (u : ℕ) (inside : u < count P) (none : label state.labels u ≡ None) (best : Best) (is_known : best_at state.bests u ≡ Some best) where
+    own : IsBestOf P (IsCandidate P state.labels u) best
+    own = (known.knows.unsettled u inside none).some best is_known
+
+    same_size : open_size state u ≡ open_size_by None (waits_above (case_of state) u) (Some best)
+    unfolding open_size
+    same_size = ap (λ (o : Option Route). open_size_by o (waits_above (case_of state) u) (best_at state.bests u)) none
+        ∙ ap (open_size_by None (waits_above (case_of state) u)) is_known
+
+    pub found_open : is_some (open_size state u) ≡ true → IsOpen P (case_of state) u best.route
+    found_open t =
+        let some = is_some_of (open_size state u) t in
+        let parts = parts_by None (waits_above (case_of state) u) (Some best) some.0 (sym same_size ∙ some.1) in
+        let same : parts.best ≡ best = (let k = parts.is_known in cc) in
+        record {
+          best = best_offer u best none own;
+          above = subst (λ (b : Best). IsAbove (waits_above (case_of state) u) (preference_of b.route)) same parts.above;
+        }
+
+    -- it is not open: it waits, and no offer has a higher preference
+    pub found_waiting : is_some (open_size state u) ≡ false →
+        (p : ℕ) × (waits_above (case_of state) u ≡ Some p) × ((c : Route) → IsOffer P (case_of state) u c → preference_of c ≤ p)
+    found_waiting f =
+        let w = closed_by (waits_above (case_of state) u) best (ap (λ (o : Option ℕ). is_some o) (sym same_size) ∙ f) in
+        (w.0, w.1, λ c offer. low w.0 w.2 c (no_worse (key_of P best.route) (key_of P c) (own.unbeaten c offer.candidate)))
+      where
+        low : (p : ℕ) → preference_of best.route ≤ p → (c : Route) → IsNoWorse (key_of P best.route) (key_of P c) → preference_of c ≤ p
+        low p le c (higher h) = omega (arith, le, h)
+        low p le c (not_longer q l) = omega (arith, le, q)
 
   -- a router that has an offer
   pub offered : HasOffered state (count P) → (u : ℕ) × ((c : Route) × IsOffer P (case_of state) u c)

@@ -55,7 +55,7 @@ import_is exporter e i is = by (nat_eq e.exporter exporter) refl is
         let same : record { importer = e.importer; act = e.act } ≡ i = cc in
         (eqb-true e.exporter exporter t, ap (λ (k : Import). k.importer) (sym same), ap (λ (k : Import). k.act) (sym same))
 
-import_of_edge : (exporter : ℕ) (e : Edge) → e.exporter ≡ exporter → import_from exporter e ≡ Some (record { importer = e.importer; act = e.act })
+pub import_of_edge : (exporter : ℕ) (e : Edge) → e.exporter ≡ exporter → import_from exporter e ≡ Some (record { importer = e.importer; act = e.act })
 import_of_edge exporter e same = ap (λ (b : Bool). cond b (Some (record { importer = e.importer; act = e.act })) None) (eq-eqb e.exporter exporter same)
 
 -- what such an edge gives is a candidate

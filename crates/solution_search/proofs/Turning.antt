@@ -10,8 +10,8 @@ use Rattle.solution_search.specs.declared.board.Change.{Change}
 use Rattle.solution_search.specs.declared.board.Tie.{Tie}
 use Rattle.solution_search.specs.declared.searching.Ending.{Ending}
 use Rattle.solution_search.specs.declared.searching.Ending.TheVariants.{All as EndsAll, Stopped}
-use Rattle.solution_search.specs.declared.searching.Look.{Look}
-use Rattle.solution_search.specs.declared.searching.Look.TheVariants.{Settled, Dead, Solved}
+use Rattle.solution_search.specs.declared.sweeping.Look.{Look}
+use Rattle.solution_search.specs.declared.sweeping.Look.TheVariants.{Settled, Dead, Solved}
 use Rattle.solution_search.specs.Boards.{State, state_of, case_of, is_tied, pending, pending_of, pending_cases, cases_of, IsTieWithin, Fits, IsState, IsBoard}
 use Rattle.solution_search.specs.Burdens.{burden}
 use Rattle.solution_search.specs.Cases.{Case, start_of}

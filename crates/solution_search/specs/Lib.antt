@@ -1,3 +1,4 @@
+pub mod Ahead
 pub mod Bests
 pub mod Boards
 pub mod Burdens
@@ -6,6 +7,7 @@ pub mod Endings
 pub mod Lookups
 pub mod Looks
 pub mod Offers
+pub mod Outlooks
 pub mod Search
 pub mod Settled
 pub mod Steps

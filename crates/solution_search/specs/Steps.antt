@@ -1,5 +1,5 @@
 -- What a look at the board does to what has been searched.
-use Rattle.std.specs.Prelude.{◌≡◌, ℕ, ◌<◌, ◌^◌, ◌⊎◌, Bool, false, All, List, [], ◌∷◌, ◌++◌, Option, Some, None}
+use Rattle.std.specs.Prelude.{◌≡◌, ℕ, ◌<◌, ◌^◌, ◌⊎◌, Bool, true, false, All, List, [], ◌∷◌, ◌++◌, Option, Some, None}
 use Rattle.srp_core.specs.declared.route.Route.{Route}
 use Rattle.srp_core.specs.Routes.{preference_of}
 use Rattle.srp_core.specs.Problem.{Problem, count, is_lone}
@@ -9,21 +9,28 @@ use Rattle.solution_search.specs.declared.board.Board.{Board}
 use Rattle.solution_search.specs.declared.board.Change.TheVariants.{Fork}
 use Rattle.solution_search.specs.declared.searching.Ending.{Ending}
 use Rattle.solution_search.specs.declared.searching.Ending.TheVariants.{All as EndsAll}
-use Rattle.solution_search.specs.declared.searching.Look.{Look}
-use Rattle.solution_search.specs.declared.searching.Look.TheVariants.{Settled, Dead, Solved}
+use Rattle.solution_search.specs.declared.sweeping.Look.{Look}
+use Rattle.solution_search.specs.declared.sweeping.Look.TheVariants.{Settled, Dead, Solved}
+use Rattle.solution_search.specs.Ahead.{NothingComes}
 use Rattle.solution_search.specs.Boards.{state_of, case_of, is_tied, pending_of, pending_cases, cases_of, Fits, IsState, IsBoard}
 use Rattle.solution_search.specs.Cases.{Case, IsSure}
+use Rattle.solution_search.specs.Burdens.{burden}
 use Rattle.solution_search.specs.Endings.{EndsWith}
 use Rattle.solution_search.specs.Search.{IsSearched}
 
--- The router is not lone, or nothing better can come to it; or a fork is put on the board.
+-- the router is not lone, or no edge can give it anything better, or nothing better comes to it but by way
+-- of itself
+abbrev pub TakesAtOnce : Problem → Case → ℕ → ℕ → Type 0
+TakesAtOnce problem case router preference = (is_lone problem router ≡ false)
+    ⊎ (IsSure problem case router preference ⊎ ((is_lone problem router ≡ true) × NothingComes problem case (Some router) router))
+
+-- The router takes its offer at once; or a fork is put on the board.
 pub record Forks (problem : Problem) (old new : Board) (router : ℕ) (best : Best) : Type 0 where
   pub state : state_of new ≡ state_of old
   pub tie : new.tie ≡ old.tie
   pub fits : Fits (count problem) new
   pub few : preference_of best.route < 2 ^ 32
-  pub changes : ((new.changes.items ≡ old.changes.items)
-      × ((is_lone problem router ≡ false) ⊎ IsSure problem (case_of (state_of old)) router (preference_of best.route)))
+  pub changes : ((new.changes.items ≡ old.changes.items) × TakesAtOnce problem (case_of (state_of old)) router (preference_of best.route))
       ⊎ (new.changes.items ≡ old.changes.items ++ Fork (record { router = router; preference = preference_of best.route }) ∷ [])
 
 -- what was put off is known
@@ -48,6 +55,17 @@ abbrev pub IsLeft : Problem → Board → Look → Type 0
 IsLeft problem board Settled = IsBoard problem board
 IsLeft problem board Dead = IsPutOff problem board
 IsLeft problem board Solved = IsPutOff problem board × IsStable problem board.labels
+
+-- what a look at the board ensures: less is left to be followed, and no solution is lost
+pub record Steps (problem : Problem) (old new : Board) (look : Look) : Type 0 where
+  pub left : IsLeft problem new look
+  pub lighter : burden (left_over new look) < burden (cases_of old)
+  pub looked : (found : List (List (Option Route))) → IsSearched problem found (cases_of old) (is_tied old) → Looked problem found new look
+
+-- the look came to something, or all is as it was
+abbrev pub StepsTo : Problem → Board → Board → Option Look → Type 0
+StepsTo problem old new None = new ≡ old
+StepsTo problem old new (Some look) = Steps problem old new look
 
 -- the first case that was put off is followed, or none was put off
 abbrev pub GoesBack : Board → Board → Option Ending → Type 0

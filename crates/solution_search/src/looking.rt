@@ -1,6 +1,6 @@
 //! Which router is looked at next.
 
-ghost use Rattle.std.specs.Prelude.{◌≡◌, ◌+◌, ◌<◌, MatchOption, MatchBool};
+ghost use Rattle.std.specs.Prelude.{◌≡◌, ◌+◌, ◌<◌, MatchOption, MatchBool, is_some};
 ghost use Rattle.solution_search.specs.Boards.{Fits, state_of};
 ghost use Rattle.solution_search.specs.Looks.{is_above, open_size, IsLeastUpto, IsLeast, IsClosed, is_offered, HasOffered, HasNoneOffered};
 
@@ -14,8 +14,8 @@ pub(crate) struct Open {
     size: u64,
 }
 
-// Whether a route has a higher preference than the router waits for, if it waits.
-fn is_above(awaited: Option<u32>, preference: u32) -> bool
+/// Whether a route has a higher preference than the router waits for, if it waits.
+pub(crate) fn is_above(awaited: Option<u32>, preference: u32) -> bool
     ensures { result ≡ is_above awaited preference }
 {
     match awaited {
@@ -43,6 +43,15 @@ fn open_size(board: &Board, routers: u32, router: u32) -> Option<u64>
             None
         },
     }
+}
+
+/// Whether the router is open.
+pub(crate) fn is_open(board: &Board, routers: u32, router: u32) -> bool
+    requires fits { Fits routers board.now }
+    requires router { router < routers }
+    ensures { result ≡ is_some (open_size (state_of board.now) router) }
+{
+    open_size(board, routers, router).is_some()
 }
 
 // The open router of the least size so far, or the next one if it is open and its size is less.
@@ -81,8 +90,8 @@ pub(crate) fn next_router(board: &Board, routers: u32) -> Option<u32>
     }
 }
 
-// Whether the router has an offer and no label.
-fn is_offered(board: &Board, routers: u32, router: u32) -> bool
+/// Whether the router has an offer and no label.
+pub(crate) fn is_offered(board: &Board, routers: u32, router: u32) -> bool
     requires fits { Fits routers board.now }
     requires router { router < routers }
     ensures { result ≡ is_offered (state_of board.now) router }

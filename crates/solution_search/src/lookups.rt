@@ -89,8 +89,8 @@ pub(crate) fn lookups_of(alloc: Global, srp: &Srp) -> Result<Lookups<'_>, NoMemo
     })
 }
 
-// The edges of a router, which stand together: the place of the first, and that behind the last.
-fn own_edges(edges: &[Edge], router: u32) -> (usize, usize)
+/// The edges of a router, which stand together: the place of the first, and that behind the last.
+pub(crate) fn own_edges(edges: &[Edge], router: u32) -> (usize, usize)
     requires { AreOrdered edges.now }
     ensures { AreOwnEdges edges.now router result.0 result.1 }
 {

@@ -1,20 +1,25 @@
 //! The search.
 
-ghost use Rattle.std.specs.Prelude.{◌≡◌, ◌<◌, ◌++◌, [], List, Option, IfNone, IfOk, Some, length};
+ghost use Rattle.std.specs.Prelude.{◌≡◌, ◌<◌, ◌++◌, [], List, Option, IfNone, IfOk, None, Some, length, true};
 ghost use Rattle.srp_core.specs.declared.route.Route.{Route};
 ghost use Rattle.srp_core.specs.Problem.{count};
+ghost use Rattle.srp_core.specs.Stability.{label};
+ghost use Rattle.solution_search.specs.Ahead.{NothingComes};
+ghost use Rattle.solution_search.specs.Looks.{IsLeast};
 ghost use Rattle.solution_search.specs.declared.bests.Best.{Best as BestOffer};
 ghost use Rattle.solution_search.specs.Burdens.{burden};
-ghost use Rattle.solution_search.specs.Boards.{best_at, is_tied, cases_of, Fits, IsBoard};
+ghost use Rattle.solution_search.specs.Boards.{best_at, case_of, cases_of, is_tied, state_of, Fits, IsBoard};
 ghost use Rattle.solution_search.specs.Endings.{EndsWith};
 ghost use Rattle.solution_search.specs.Search.{IsSearched};
-ghost use Rattle.solution_search.specs.Steps.{Forks, Looked, IsLeft, left_over, GoesBack, Turned};
+ghost use Rattle.solution_search.specs.Steps.{Forks, GoesBack, Steps, StepsTo, Turned};
 
+use crate::ahead::{nothing_comes, outlook_of};
 use crate::board::{Board, Change, Tie, Wait};
 use crate::looking::{has_waiting, next_router};
 use crate::lookups::{Lookups, is_sure, lookups_of};
 use crate::settling::{Outcome, settle};
 use crate::start::start;
+use crate::sweeping::{Look, sweep};
 use crate::undoing::turn_back;
 use crate::visitor::Visitor;
 use base_kit::NoMemory;
@@ -31,22 +36,43 @@ pub enum Ending {
     Stopped,
 }
 
-// What a look at the board came to.
-#[derive(Clone, Copy, Debug, PartialEq, Eq)]
-enum Look {
-    /// A router was settled.
-    Settled,
-    /// The case has no solution.
-    Dead,
-    /// The labels are stable.
-    Solved,
+// Whether a router is lone and its edges may give it something better.
+fn may_get_better(lookups: &Lookups, board: &Board, router: u32) -> bool
+    requires fits { Fits (count lookups.now) board.now }
+    requires router { router < count lookups.now }
+{
+    let _known = lookups.srp.count();
+    match &board.bests[router as usize] {
+        None => false,
+        Some(best) => {
+            lookups.srp.lone()[router as usize]
+                && !is_sure(lookups, &board.labels, router, preference_of(&best.route))
+        }
+    }
+}
+
+// Whether nothing better comes to a router but by way of itself.
+fn nothing_comes_around(lookups: &Lookups, board: &Board, router: u32) -> Result<bool, NoMemory>
+    requires board { IsBoard lookups.now board.now }
+    requires router { router < count lookups.now }
+    requires unsettled { label board.now.labels router ≡ None }
+    ensures { IfOk result (λ nothing. nothing ≡ true → NothingComes lookups.now (case_of (state_of board.now)) (Some router) router) }
+{
+    match outlook_of(lookups, board, Some(router))? {
+        None => Ok(false),
+        Some(outlook) => {
+            let nothing = nothing_comes(lookups, board, &outlook, router)?;
+            Ok(nothing)
+        }
+    }
 }
 
 // A lone router to which something better may come has two cases: it waits, or it takes its offer. The
 // second is followed first.
 fn put_fork(lookups: &Lookups, board: &mut Board, router: u32) -> Result<(), NoMemory>
-    requires fits { Fits (count lookups.now) board.old }
+    requires board { IsBoard lookups.now board.old }
     requires router { router < count lookups.now }
+    requires unsettled { label board.old.labels router ≡ None }
     ensures { IfOk result (λ _. (best : BestOffer) → best_at board.old.bests.items router ≡ Some best → Forks lookups.now board.old board.new router best) }
 {
     let _known = lookups.srp.count();
@@ -60,6 +86,9 @@ fn put_fork(lookups: &Lookups, board: &mut Board, router: u32) -> Result<(), NoM
             if is_sure(lookups, &board.labels, router, preference) {
                 return Ok(());
             }
+            if nothing_comes_around(lookups, board, router)? {
+                return Ok(());
+            }
             board
                 .changes
                 .push(Change::Fork(Wait { router, preference }))?;
@@ -68,12 +97,38 @@ fn put_fork(lookups: &Lookups, board: &mut Board, router: u32) -> Result<(), NoM
     }
 }
 
-// Settles the next router, if one is open.
+// Before the turn of a router to which something better may come, settles those to which nothing comes.
+// None: there is none, and all is as it was.
+fn sweep_before(lookups: &Lookups, board: &mut Board, router: u32) -> Result<Option<Look>, NoMemory>
+    requires board { IsBoard lookups.now board.old }
+    requires router { router < count lookups.now }
+    ensures { IfOk result (StepsTo lookups.now board.old board.new) }
+{
+    if may_get_better(lookups, board, router) {
+        let swept = sweep(lookups, board)?;
+        return Ok(swept);
+    }
+    Ok(None)
+}
+
+// Settles a router in its turn.
+fn settle_in_turn(lookups: &Lookups, board: &mut Board, router: u32) -> Result<Look, NoMemory>
+    requires board { IsBoard lookups.now board.old }
+    requires least { IsLeast (state_of board.old) (count lookups.now) router }
+    ensures { IfOk result (Steps lookups.now board.old board.new) }
+{
+    let _known = lookups.srp.count();
+    put_fork(lookups, board, router)?;
+    match settle(lookups, board, router)? {
+        Outcome::Fine => Ok(Look::Settled),
+        Outcome::Upset => Ok(Look::Dead),
+    }
+}
+
+// Settles the next router, if one is open, or routers to which nothing better comes.
 fn advance(lookups: &Lookups, board: &mut Board) -> Result<Look, NoMemory>
     requires { IsBoard lookups.now board.old }
-    ensures left { IfOk result (IsLeft lookups.now board.new) }
-    ensures lighter { IfOk result (λ look. burden (left_over board.new look) < burden (cases_of board.old)) }
-    ensures looked { IfOk result (λ look. (found : List (List (Option Route))) → IsSearched lookups.now found (cases_of board.old) (is_tied board.old) → Looked lookups.now found board.new look) }
+    ensures { IfOk result (Steps lookups.now board.old board.new) }
 {
     let routers = lookups.srp.count();
     match next_router(board, routers) {
@@ -82,13 +137,13 @@ fn advance(lookups: &Lookups, board: &mut Board) -> Result<Look, NoMemory>
         } else {
             Ok(Look::Solved)
         },
-        Some(router) => {
-            put_fork(lookups, board, router)?;
-            match settle(lookups, board, router)? {
-                Outcome::Fine => Ok(Look::Settled),
-                Outcome::Upset => Ok(Look::Dead),
+        Some(router) => match sweep_before(lookups, board, router)? {
+            Some(look) => Ok(look),
+            None => {
+                let look = settle_in_turn(lookups, board, router)?;
+                Ok(look)
             }
-        }
+        },
     }
 }
 
