@@ -3,6 +3,8 @@ distance."""
 from __future__ import annotations
 
 import colorsys
+import html
+import shlex
 import subprocess
 
 import graphviz
@@ -78,7 +80,14 @@ def picture(graphs: list[Graph], title: str, groups: list[Group], has_key: bool 
         color="#444444",
     )
     made.attr("edge", color="#777777", fontname=FONT, fontsize="9", fontcolor="#333333", arrowsize="0.6")
+    # (costs lie on their links, and links under all that is written)
+    made.attr(outputorder="edgesfirst")
     colors = color_of(groups)
+    shown = [_labels(graph) for graph in graphs]
+    is_spread = any(
+        labels and graph.edges and graph.edges[0].at_low is not None for labels, graph in zip(shown, graphs)
+    )
+    places = _places(graphs[0], colors, shown[0]) if len(graphs) > 1 else {}
     for number, graph in enumerate(graphs):
         with made.subgraph(name=f"cluster_{number}") as part:
             part.attr(
@@ -90,7 +99,7 @@ def picture(graphs: list[Graph], title: str, groups: list[Group], has_key: bool 
                 fontsize="13",
                 margin="14",
             )
-            _put(part, graph, f"{number}:", colors)
+            _put(part, graph, f"{number}:", colors, shown[number], is_spread, places)
     notes = [note for graph in graphs for note in graph.notes]
     made.attr(label="\\n".join([f" {escaped(title)}", *notes, *(key(graphs) if has_key else [])]))
     return made
@@ -116,7 +125,7 @@ def key(graphs: list[Graph]) -> list[str]:
         (any(node.group.is_lone for node in nodes), "Dashed border: lone router."),
         (
             any(edge.at_low is not None for edge in edges),
-            "Number at a link: its OSPF cost, at the router that adds it.",
+            "Number on a link: its OSPF cost. Of two, each is that of the router on its side, or by whose name it stands.",
         ),
         (
             any(edge.policies for edge in edges),
@@ -129,19 +138,83 @@ def key(graphs: list[Graph]) -> list[str]:
     return [words for holds, words in told if holds]
 
 
-def _put(part: graphviz.Graph, graph: Graph, prefix: str, colors: dict[int, str]) -> None:
+def _places(graph: Graph, colors: dict[int, str], shows_labels: bool) -> dict[str, float]:
+    """How far to the right each router stands where a graph is laid out alone. Empty where it cannot be."""
+    made = graphviz.Graph(engine="dot")
+    _put(made, graph, "0:", colors, shows_labels, False, {})
+    try:
+        # (a long line goes on behind a backslash)
+        lines = laid_out(made, "plain").decode().replace("\\\n", "").splitlines()
+    except Refused:
+        return {}
+    at = {words[1]: float(words[2]) for words in map(shlex.split, lines) if words[:1] == ["node"]}
+    return {name: at[_id("0:", node.name)] for node in graph.nodes for name in node.members}
+
+
+def _put(
+    part: graphviz.Graph,
+    graph: Graph,
+    prefix: str,
+    colors: dict[int, str],
+    shows_labels: bool,
+    is_spread: bool,
+    places: dict[str, float],
+) -> None:
+    """Puts a graph into a picture; spread, with as much height between layers as costs take. Where `places` has routers,
+    nodes of one layer stand as their members do there."""
     layers = graph.layers()
-    shows_labels = _labels(graph)
+    rank = {node.name: sum(places.get(name, 0) for name in node.members) / len(node.members) for node in graph.nodes}
+    beside: dict[int, list[str]] = {}
     for node in graph.nodes:
         part.node(_id(prefix, node.name), **_node(node, colors))
-    for edge in graph.edges:
-        is_upright = layers[edge.low] <= layers[edge.high]
+        beside.setdefault(layers[node.name], []).append(_id(prefix, node.name))
+    for number, edge in enumerate(graph.edges):
+        is_flat = layers[edge.low] == layers[edge.high]
+        is_upright = rank[edge.low] <= rank[edge.high] if is_flat else layers[edge.low] < layers[edge.high]
         upper, lower = (edge.low, edge.high) if is_upright else (edge.high, edge.low)
         looks = _edge(edge, is_upright, shows_labels)
-        if layers[upper] == layers[lower]:
+        cost = _cost(edge, is_upright, is_flat) if shows_labels else ""
+        if is_flat and not cost:
             looks["constraint"] = "false"
-        part.edge(_id(prefix, upper), _id(prefix, lower), **looks)
-    _keep_layers(part, graph, prefix, layers)
+        elif is_spread and not cost:
+            looks["minlen"] = "2"
+        if not cost:
+            part.edge(_id(prefix, upper), _id(prefix, lower), **looks)
+            continue
+        middle = _id(prefix, f"cost {number}")
+        part.node(middle, label=cost, shape="plain", style="filled", fillcolor="white", fontsize="9", tooltip=" ")
+        part.edge(_id(prefix, upper), middle, **looks, len="0.8")
+        part.edge(middle, _id(prefix, lower), **looks, len="0.8")
+        if is_flat:
+            beside[layers[upper]].append(middle)
+    _keep_layers(part, beside)
+    if places:
+        _keep_order(part, graph, prefix, layers, rank)
+
+
+def _cost(edge: Edge, is_upright: bool, is_flat: bool) -> str:
+    """The costs of a link as a table on white ground: one where both ends have it, else that of each end on its side,
+    or with its name where both stand at one height."""
+    if edge.at_low is None:
+        return ""
+    ends = [(edge.low, edge.at_low), (edge.high, edge.at_high)]
+    upper, lower = ends if is_upright else ends[::-1]
+    rows = [str(upper[1])] if upper[1] == lower[1] else [str(cost) for _, cost in (upper, lower)]
+    if is_flat and len(rows) > 1:
+        rows = [f"{name}: {cost}" for name, cost in (upper, lower)]
+    rows += [f"{edge.count} links"] if edge.count > 1 else []
+    cells = "".join(f"<tr><td>{html.escape(row)}</td></tr>" for row in rows)
+    return f'<<table border="0" cellborder="0" cellspacing="0" cellpadding="1" bgcolor="white">{cells}</table>>'
+
+
+def _keep_order(
+    part: graphviz.Graph, graph: Graph, prefix: str, layers: dict[str, int], rank: dict[str, float]
+) -> None:
+    """Nodes of one layer from left to right by their places: links that are not drawn lead from each to the next."""
+    for layer in sorted(set(layers.values())):
+        row = sorted((node.name for node in graph.nodes if layers[node.name] == layer), key=lambda name: rank[name])
+        for left, right in zip(row, row[1:]):
+            part.edge(_id(prefix, left), _id(prefix, right), style="invis")
 
 
 def _id(prefix: str, name: str) -> str:
@@ -149,14 +222,13 @@ def _id(prefix: str, name: str) -> str:
     return f"{prefix.replace(':', '_')}{name}"
 
 
-def _keep_layers(part: graphviz.Graph, graph: Graph, prefix: str, layers: dict[str, int]) -> None:
-    """Nodes of one layer at one height."""
-    for layer in sorted(set(layers.values())):
+def _keep_layers(part: graphviz.Graph, beside: dict[int, list[str]]) -> None:
+    """What stands in one layer at one height."""
+    for _, names in sorted(beside.items()):
         with part.subgraph() as row:
             row.attr(rank="same")
-            for node in graph.nodes:
-                if layers[node.name] == layer:
-                    row.node(_id(prefix, node.name))
+            for name in names:
+                row.node(name)
 
 
 def _node(node: Node, colors: dict[int, str]) -> dict[str, str]:
@@ -210,16 +282,12 @@ def _labels(graph: Graph) -> bool:
 
 
 def _edge(edge: Edge, is_upright: bool, shows_labels: bool) -> dict[str, str]:
-    label = [f"{edge.count} links"] if edge.count > 1 else []
+    is_cost = edge.at_low is not None and shows_labels
+    label = [f"{edge.count} links"] if edge.count > 1 and not is_cost else []
     looks = {}
-    upper, lower = (edge.at_low, edge.at_high) if is_upright else (edge.at_high, edge.at_low)
     to_upper, to_lower = (edge.to_low, edge.to_high) if is_upright else (edge.to_high, edge.to_low)
     if shows_labels:
         label += edge.policies
-        if upper == lower and upper is not None:
-            label.append(str(upper))
-        elif upper is not None:
-            looks.update(taillabel=f" {upper} ", headlabel=f" {lower} ", labeldistance="1.6")
     if to_upper != to_lower:
         looks.update(dir="forward" if to_lower else "back", arrowhead="normal", arrowtail="normal")
     elif not to_upper:

@@ -2,14 +2,15 @@
 import html
 import os
 import re
+import shlex
 import shutil
 
 import pytest
 
 pytest.importorskip("graphviz", reason="the package python3-graphviz is not there: pictures are not tried")
 
-from bonsainet.drawing.graph import large, large_by_groups, small
-from bonsainet.drawing.layout import CLOSED, color_of, key, picture
+from bonsainet.drawing.graph import Edge, large, large_by_groups, small
+from bonsainet.drawing.layout import CLOSED, _cost, color_of, key, laid_out, picture
 from bonsainet.drawing.tool import graphs
 from bonsainet.ask.program import Group, Program
 from bonsainet.tests.asking import bytes_of, compressed, example, place_of, tool
@@ -95,6 +96,63 @@ def test_what_is_left_out_is_said() -> None:
     assert len(graph.edges) == 1225
     by_groups = large_by_groups(example("full-mesh.cfg").network, star)
     assert len(by_groups.edges) == 2
+
+
+def plain(name: str, number: int) -> list[list[str]]:
+    """The lines of a picture as Graphviz lays it out."""
+    found = compressed(name, number)
+    drawn = picture(graphs(example(name), found), "a title", found.groups)
+    return list(map(shlex.split, laid_out(drawn, "plain").decode().replace("\\\n", "").splitlines()))
+
+
+def places_of(lines: list[list[str]]) -> dict[str, tuple[float, float]]:
+    """Where each node stands."""
+    return {words[1]: (float(words[2]), float(words[3])) for words in lines if words[:1] == ["node"]}
+
+
+@needs_dot
+@pytest.mark.parametrize("number", [1, 10])
+def test_a_cost_lies_on_its_own_link(number: int) -> None:
+    lines = plain("campus.cfg", number)
+    places = places_of(lines)
+    for at, edge in enumerate(large(example("campus.cfg").network, compressed("campus.cfg", number)).edges):
+        cost, low, high = f"0_cost {at}", f"0_{edge.low}", f"0_{edge.high}"
+        joined = {end for words in lines if words[0] == "edge" and cost in words[1:3] for end in words[1:3]}
+        assert joined == {cost, low, high}
+        assert (
+            min(places[low][1], places[high][1]) - 0.01
+            <= places[cost][1]
+            <= max(places[low][1], places[high][1]) + 0.01
+        )
+
+
+def test_costs_are_written_once_or_at_their_ends() -> None:
+    found = compressed("campus.cfg", 1)
+    told = picture([large(example("campus.cfg").network, found)], "a title", found.groups).source
+    assert 'bgcolor="white"><tr><td>5</td></tr></table>' in told
+    ends = Edge("a", "b", 5, 7)
+    assert [
+        re.findall(r"<td>(.*?)</td>", _cost(ends, *how)) for how in ((True, False), (False, False), (True, True))
+    ] == [
+        ["5", "7"],
+        ["7", "5"],
+        ["a: 5", "b: 7"],
+    ]
+
+
+@needs_dot
+@pytest.mark.parametrize("name, number", [("campus.cfg", 1), ("campus.cfg", 10), ("fabric.cfg", 1)])
+def test_before_and_after_keep_their_places(name: str, number: int) -> None:
+    places, found = places_of(plain(name, number)), compressed(name, number)
+    before = {group.members[0]: [places[f"0_{member}"] for member in group.members] for group in found.groups}
+    mean = {name: sum(x for x, _ in those) / len(those) for name, those in before.items()}
+    height = {name: those[0][1] for name, those in before.items()}
+    for name in mean:
+        assert all(abs(y - height[name]) < 0.1 for _, y in before[name])
+        assert abs(places[f"1_{name}"][1] - height[name]) < 0.3
+        for other in mean:
+            if height[other] == height[name] and mean[name] + 0.01 < mean[other]:
+                assert places[f"1_{name}"][0] < places[f"1_{other}"][0]
 
 
 @needs_dot
