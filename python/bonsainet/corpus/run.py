@@ -43,15 +43,25 @@ class Rested:
 
 
 def run_on_frr(folder: Path, given: Folder, program: Program, seconds: int, shared: str = "") -> Rested:
-    """Runs a folder, waits, and compares each router's best BGP route for each prefix with its label at rest in the
-    text that was imported from it, with the device's preferences and well-known communities put back.
+    """Runs a folder, waits, and compares each router's best BGP route for each prefix, or the cost of its OSPF route
+    inside the area, with its label at rest in the text that was imported from it, with the device's preferences and
+    well-known communities put back.
 
     `shared` is the AS number that `--own-as` parted, put back into the paths of the labels. Refused without root or
     FRR.
     """
+    routers = read_folder(str(folder)).routers
+    with on_frr(folder, routers) as (room, _):
+        time.sleep(seconds)
+        return _compare(routers, room, given, program, shared)
+
+
+@contextlib.contextmanager
+def on_frr(folder: Path, routers: list[Source]) -> Iterator[tuple[Path, dict[str, str]]]:
+    """FRR's daemons of the routers of a folder, while they run: the folder with a socket of each router, by its name, and
+    the namespaces. Refused without root or FRR."""
     if os.geteuid() != 0 or not PLACE.is_dir():
         raise Refused("to run FRR takes root and the package frr")
-    routers = read_folder(str(folder)).routers
     signal.signal(signal.SIGTERM, _interrupt)
     with contextlib.ExitStack() as ends:
         room = Path(ends.enter_context(tempfile.TemporaryDirectory(prefix="bonsai-run-")))
@@ -62,8 +72,7 @@ def run_on_frr(folder: Path, given: Folder, program: Program, seconds: int, shar
         _join(routers, spaces)
         for router, space in zip(routers, spaces):
             ends.enter_context(_daemons(folder, router, space, room / router.name))
-        time.sleep(seconds)
-        return _compare(routers, room, given, program, shared)
+        yield room, {router.name: space for router, space in zip(routers, spaces)}
 
 
 @contextlib.contextmanager
@@ -156,7 +165,10 @@ def _compare(routers: list[Source], room: Path, given: Folder, program: Program,
     text = text_of(given.routers)
     preferences = {router.name: router.preferences for router in given.routers}
     prefixes = [prefix for one in program.classes(text) for prefix in one.prefixes]
-    held = {router.name: _held(room / router.name, prefixes) for router in routers}
+    names = {router.name for router in given.routers}
+    routers = [router for router in routers if router.name in names]
+    is_bgp = any(router.process("bgp") for router in given.routers)
+    held = {router.name: (_held if is_bgp else _costs)(room / router.name, prefixes) for router in routers}
     for one in program.classes(text):
         lines = program.done("run", "F", str(one.number), "S", texts={"F": text, "S": "*\n" * 20}).splitlines()[1:]
         labels = {line.split()[0]: " ".join(line.split()[1:]) for line in lines}
@@ -184,6 +196,21 @@ def _held(room: Path, prefixes: list[str]) -> dict[str, str]:
         told = told[end:].lstrip()
         found[prefix] = _label(answer.get("paths", []))
     return found
+
+
+def _costs(room: Path, prefixes: list[str]) -> dict[str, str]:
+    """The cost of a router's OSPF route inside the area to each prefix, written as a label."""
+    told = subprocess.run(
+        ["vtysh", "--vty_socket", str(room), "-c", "show ip ospf route json"],
+        capture_output=True,
+        text=True,
+        check=False,
+    ).stdout
+    found = json.loads(told) if told.startswith("{") else {}
+    return {
+        prefix: f"cost {found[prefix]['cost']}" if found.get(prefix, {}).get("routeType") == "N" else "none"
+        for prefix in prefixes
+    }
 
 
 def _label(paths: list[dict]) -> str:

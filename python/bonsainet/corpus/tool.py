@@ -191,6 +191,8 @@ def main(argv: list[str] | None = None) -> int:
 def _run(folder: Path, program: Program, seconds: int) -> str:
     """Runs a network on FRR, and tells how many labels are alike."""
     report = _import(folder, program, Options(own_as=True))
+    if any(found.kind == "OtherArea" for found in report.folder.log.refusals):
+        report, _ = _of_one_area(folder, program, report)
     if report.folder.log.refusals:
         raise Refused(f"{folder.name}: it is not accepted")
     parted = {found.text.split()[2] for found in report.folder.log.assumptions if "--own-as" in found.reason}
