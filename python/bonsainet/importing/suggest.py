@@ -21,6 +21,7 @@ from bonsainet.configs.text import Stanza
 HEAD = """# Decisions for bonsai-import --decisions. Each is about a refused line, and none counts yet: take out the # before
 # the last line of each, complete it and give the reason. What is dropped is gone from the network that is asked about.
 """
+OTHER_AREA = "OtherArea"
 SESSIONS = (INTERNAL, MASKS, MULTIHOP, "ipv6-peer")
 WHOLE = (["match"], ["set"], ["ip", "address"], ["vrf"], ["ip", "vrf"])
 REASON = 'because ""'
@@ -45,6 +46,8 @@ def _decisions(folder: Folder, found: Refusal) -> Iterator[str]:
         yield "  run with --own-as, or leave the router's file out by --skip"
     elif found.name == SAME:
         yield f"  run with --skip {_quoted(found.place.file)}"
+    elif found.kind == OTHER_AREA:
+        yield "  run with --area N, which keeps one area of several"
     elif found.name == NO_COST and router and stanza:
         yield from _of_cost(router, stanza, found, at)
     elif found.name == UNDEFINED:

@@ -66,7 +66,7 @@ SESSION = Subject(
         "bgp asnotation | bgp cluster-id | bgp consistency-checker | bgp default show-hostname | bgp default "
         "show-nexthop-hostname | bgp enforce-first-as | bgp log-neighbor-changes | bgp router-id | bgp shutdown-message | bgp "
         "snmp | bgp soft-reconfig-backup | bgp transport | bgp upgrade-cli | neighbor * capability "
-        "dynamic | neighbor * capability orf | neighbor * capability route-refresh | neighbor * cluster-id | neighbor * "
+        "dynamic | neighbor * capability extended-nexthop | neighbor * capability orf | neighbor * capability route-refresh | neighbor * cluster-id | neighbor * "
         "disable-addpath-rx | neighbor * disable-link-bw-encoding-ieee | neighbor * dont-capability-negotiate | neighbor * "
         "enforce-first-as | neighbor * extended-optional-parameters | neighbor * log-neighbor-changes | neighbor * "
         "path-mtu-discovery | neighbor * sender-as-path-loop-detection | neighbor * soft-reconfiguration | neighbor * solo | "
