@@ -1,14 +1,14 @@
 //! Files of the system, as a source.
 
-ghost use Rattle.std.specs.Prelude.{None, true};
-ghost use Rattle.bonsai.specs.Adapters.{rest_of};
+ghost use Rattle.std.specs.Prelude.{◌≡◌, ℕ, List, None, true};
+ghost use Rattle.adapters.specs.Adapters.{rest_of};
 
 use io_kit::{Failed, Source};
 use std::fs;
 use std::io::Read;
 use std::rt::Files;
 
-/// Files of the system. It tells nothing of what they hold.
+/// Files of the system. It does not say what they hold.
 #[derive(Drop)]
 pub struct FileSource<'a, R: Files> {
     rt: &'a R,
@@ -17,7 +17,10 @@ pub struct FileSource<'a, R: Files> {
 }
 
 impl<'a, R: Files> FileSource<'a, R> {
-    pub fn new(rt: &'a R) -> Self {
+    /// The files of the system, of which none is open and none has failed.
+    pub fn new(rt: &'a R) -> Self
+        ensures { (name : List ℕ) → ⟦<FileSource<'a, R> as Source>⟧.faults result name ≡ 0 }
+    {
         FileSource {
             rt,
             file: None,
