@@ -1,0 +1,76 @@
+"""A short run of frames, and whether it sees a program that errs."""
+
+from __future__ import annotations
+
+import json
+import random
+import subprocess
+
+import pytest
+
+from bonsainet.ask.program import TOP, Answer
+from bonsainet.ask.where import named_by
+from hostile import frames_run
+from hostile.asking import Asker
+from hostile.frames_run import COMMANDS, Found, Programs, difference, frame, over_text, ranges, wanted
+
+FABRIC = (TOP / "examples" / "inputs" / "fabric.cfg").read_bytes()
+
+
+@pytest.fixture(name="programs", scope="module")
+def programs_fixture() -> Programs:
+    """Both programs."""
+    return Programs(Asker(), Asker(named_by(str(TOP / "bonsai-all"))))
+
+
+def test_a_short_run_finds_no_difference() -> None:
+    words = ["--texts", "40", "--jobs", "2", "--seed", "1"]
+    ran = subprocess.run([str(TOP / "hostile" / "frames"), *words], capture_output=True, text=True, check=False)
+    assert ran.returncode == 0, ran.stdout + ran.stderr
+    told = json.loads(ran.stdout)
+    assert told["texts"] == 40 and told["frames"] > 100 and not told["differences"]
+    assert {key.split()[0] for key in told["by_command_and_status"]} == {*COMMANDS}
+    assert {"status 0", "status 1", "status 2", "status 8"} <= {*told["by_end"]}
+
+
+def test_a_frame() -> None:
+    assert frame(3, Answer(0, b"two\nlines\n", b"")) == b"class 3 0 10\ntwo\nlines\n"
+    assert frame(9, Answer(1, b"", b"refused: NoClass 9\n")) == b"class 9 1 19\nrefused: NoClass 9\n"
+
+
+def test_ranges_reach_over_the_classes() -> None:
+    made = [it for seed in range(50) for it in ranges(random.Random(seed), 3)]
+    assert all(0 <= first <= last <= 999_999_999 for first, last in made)
+    assert any(first == 0 for first, _ in made) and any(last > 3 for _, last in made)
+
+
+class Errs(Asker):
+    """A program that leaves out the last byte of what it writes."""
+
+    def ask(self, *words: str, **more: object) -> Answer:
+        answer = super().ask(*words, **more)  # type: ignore[arg-type]
+        return Answer(answer.status, answer.out[:-1], answer.err)
+
+
+def test_a_program_that_errs_is_seen(programs: Programs) -> None:
+    assert not over_text(programs, FABRIC, 1).differences
+    found = over_text(Programs(programs.one, Errs(programs.every.path)), FABRIC, 1)
+    assert len(found.differences) == 4 * len(COMMANDS) and "from byte " in found.differences[0]
+
+
+def test_what_is_wanted_of_classes_that_are_not_there(programs: Programs) -> None:
+    found = Found()
+    answer = wanted(programs.one, FABRIC, "report", range(2, 4), found)
+    assert answer.status == 8 and answer.out.endswith(b"class 3 1 19\nrefused: NoClass 3\n")
+    assert found.frames == {"report 0": 1, "report 1": 1}
+
+
+def test_differences_in_words() -> None:
+    assert "status 0 , got 5 out of memory" in difference(Answer(0, b"a", b""), Answer(5, b"a", b"out of memory\n"))
+    assert difference(Answer(0, b"abc", b""), Answer(0, b"abd", b"")) == "from byte 2 wanted b'c', got b'd'"
+
+
+def test_no_program_is_a_refusal(monkeypatch: pytest.MonkeyPatch, capsys: pytest.CaptureFixture[str]) -> None:
+    monkeypatch.setattr(frames_run, "TOP", TOP / "nowhere")
+    assert frames_run.main(["--one", "/bin/true", "--texts", "1"]) == 1
+    assert "hostile/frames: refused: " in capsys.readouterr().err
