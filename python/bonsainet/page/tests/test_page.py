@@ -1,4 +1,5 @@
 """The page says what the program says, is one file, and works in a browser."""
+import dataclasses
 import html
 import json
 import re
@@ -116,6 +117,13 @@ def test_a_network_without_ties_says_so() -> None:
         everything(text, found, None, Program().identity, ties_by_class(Program(), text, found))
     )
     assert "tied route" not in page("campus.cfg")
+
+
+def test_control_bytes_in_the_name_of_a_file() -> None:
+    text = dataclasses.replace(example("two-routers.cfg"), name="a\x01b\x1b[31m<i>.cfg")
+    made = page_of(everything(text, [compressed("two-routers.cfg", 1)], None, Program().identity))
+    assert "<title>Bonsai: a\\x01b\\x1b[31m&lt;i&gt;.cfg</title>" in made
+    assert all(letter == "\n" or letter.isprintable() for letter in made)
 
 
 def test_one_is_told_as_one() -> None:
