@@ -4,7 +4,6 @@ import html
 import json
 import re
 import shutil
-import time
 from collections.abc import Iterator
 from pathlib import Path
 
@@ -24,7 +23,7 @@ from bonsainet.nets.fat_tree import fat_tree_text
 from bonsainet.configs.compressed import asked
 from bonsainet.ask.program import Group, Program
 from bonsainet.ask.where import Identity
-from bonsainet.tests.asking import TWO_ALIKE, compressed, example, place_of, tool
+from bonsainet.tests.asking import TWO_ALIKE, compressed, example, place_of, tool, wait_for
 
 pytestmark = pytest.mark.skipif(not shutil.which("dot"), reason="the package graphviz is not there: no page is made")
 
@@ -248,9 +247,7 @@ def test_sorting_searching_and_opening(browser: object, tmp_path: Path) -> None:
     browser.find_element("css selector", "#open summary").click()
     assert shown(browser, "#open pre")[0] == compressed("campus.cfg", 10).text.strip()
     browser.find_element("css selector", "#open button.copy").click()
-    deadline = time.monotonic() + 10
-    while shown(browser, "#open button.copy") == ["Copy"] and time.monotonic() < deadline:
-        time.sleep(0.1)
+    wait_for(lambda: shown(browser, "#open button.copy") != ["Copy"])
     assert shown(browser, "#open button.copy")[0] in ("Copied", "Selected: copy with the keyboard")
 
 
