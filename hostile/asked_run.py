@@ -16,7 +16,9 @@ import subprocess
 import time
 from pathlib import Path
 
-from bonsainet.ask.program import Answer
+from bonsainet.ask.program import TOP, Answer
+from bonsainet.ask.where import named_by
+from hostile import asked_shut
 from hostile.asking import Asker
 from hostile.judge import answers, asked, asked_words, questions
 from hostile.judge.problem import Network
@@ -131,6 +133,12 @@ def over_text(program: Asker, text: bytes, start: int, found: Found, how: How) -
         if why:
             found.differences.append(_kept(how.keep, text, start, words, why, answer))
 
+    if not isinstance(net, answers.Expected):
+        differs = asked_shut.fault(program, chance, text, net)
+        found.calls["shut"] += 2
+        if differs:
+            found.differences.append(_kept(how.keep, text, start, *differs, Answer(-1, b"", b"")))
+
 
 TASKS = {*maker.TASKS, "route", "isolated", "hops", "through", "avoids", "carries", "lacks"}
 
@@ -182,10 +190,16 @@ def run(how: How, seconds: float, jobs: int, texts: int | None, commands: int | 
     return found
 
 
+def own_program() -> str | None:
+    """The program bonsai-ask that the repository's launcher names, or None where there is no such launcher."""
+    launcher = TOP / "bonsai-ask"
+    return named_by(str(launcher)) if launcher.is_file() else None
+
+
 def main(arguments: list[str] | None = None) -> int:
     """Status 0 without a difference, 1 with one, 2 for wrong words."""
     parser = argparse.ArgumentParser(prog="hostile/ask", description=(__doc__ or "").strip())
-    parser.add_argument("--program", required=True, help="the program bonsai-ask")
+    parser.add_argument("--program", help="the program bonsai-ask (default: that of the repository)")
     parser.add_argument("--seconds", type=float, default=20, help="how long (default 20)")
     parser.add_argument("--texts", type=int, help="end when so many texts were asked")
     parser.add_argument("--commands", type=int, help="end when so many commands were asked and judged")
@@ -202,10 +216,14 @@ def main(arguments: list[str] | None = None) -> int:
     parser.add_argument("--keep", type=Path, default=Path("out/hostile"), help="the folder for what differs")
     given = parser.parse_args(arguments)
     seed = given.seed if given.seed is not None else int.from_bytes(os.urandom(3), "big")
+    program = given.program or own_program()
+    if not program:
+        print("ask: left out: the repository has no bonsai-ask; --program names one")
+        return 0
     if given.by == "solver" and not shutil.which("z3"):
         print("ask: left out: the program z3 is not there: install the package z3")
         return 0
-    how = How(os.path.abspath(given.program), seed, given.by, given.calls, given.keep)
+    how = How(os.path.abspath(program), seed, given.by, given.calls, given.keep)
     load, begun = os.getloadavg()[0], time.monotonic()
     found = run(how, given.seconds, given.jobs, given.texts, given.commands)
     table = {

@@ -14,7 +14,7 @@ from collections.abc import Callable
 from pathlib import Path
 
 from hostile.asking import Asker
-from hostile.planting import copies, expecting, judge_faults, record, tool_faults, tools
+from hostile.planting import ask_faults, asked, copies, expecting, judge_faults, record, tool_faults, tools
 from hostile.planting.copies import Unfit
 from hostile.planting.fault import Fault
 from hostile.planting.program_faults import FAULTS
@@ -150,9 +150,16 @@ def plant(arguments: list[str] | None = None) -> int:
         action="store_true",
         help="plant faults of the tools, the launcher and the build in copies of the repository, and tell which their tests see",
     )
+    parser.add_argument(
+        "--asked",
+        action="store_true",
+        help="plant faults of bonsai-ask, several into one copy, and tell which hostile/ask finds",
+    )
     given = parser.parse_args(arguments)
     if given.tools:
         return _of_tools(parser, given)
+    if given.asked:
+        return _of_asked(parser, given)
     if not given.as_it_is:
         return _all(parser, arguments, FAULTS, of_program)
     try:
@@ -172,6 +179,20 @@ def _of_tools(parser: argparse.ArgumentParser, given: argparse.Namespace) -> int
         print("".join(f"{fault.name:22} {fault.means}\n" for fault in tool_faults.FAULTS), end="")
         return 0
     return tools.plant(given.name, given.record)
+
+
+def _of_asked(parser: argparse.ArgumentParser, given: argparse.Namespace) -> int:
+    """The faults of `bonsai-ask`."""
+    if set(given.name) - {fault.name for fault in ask_faults.FAULTS}:
+        parser.error("no such fault; --list names them")
+    if given.list:
+        print("".join(f"{fault.name:22} {fault.layer}: {fault.means}\n" for fault in ask_faults.FAULTS), end="")
+        return 0
+    try:
+        return asked.plant(given.name, given.seed, given.seconds, given.folder, given.record)
+    except Unfit as why:
+        print(f"{parser.prog}: {why}", file=sys.stderr)
+        return 1
 
 
 def sensitivity(arguments: list[str] | None = None) -> int:

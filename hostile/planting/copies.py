@@ -5,6 +5,7 @@ import importlib.machinery
 import importlib.util
 import shutil
 import tempfile
+from collections.abc import Sequence
 from pathlib import Path
 from types import ModuleType
 
@@ -42,16 +43,21 @@ def launcher_of(folder: Path) -> ModuleType:
 def program(fault: Fault | None, folder: Path, called: str = "bonsai") -> Path:
     """The program of a name with a fault of its sources, or without one, kept in a folder and built where it is not
     there."""
-    kept = folder.resolve() / (fault.name if fault else "as-it-is" if called == "bonsai" else f"{called}-as-it-is")
+    name = fault.name if fault else "as-it-is" if called == "bonsai" else f"{called}-as-it-is"
+    return program_with([fault] if fault else [], folder.resolve() / name, called)
+
+
+def program_with(faults: Sequence[Fault], kept: Path, called: str) -> Path:
+    """The program of a name with faults of its sources, built where the file is not there."""
     if kept.is_file():
         return kept
-    folder.mkdir(parents=True, exist_ok=True)
+    kept.parent.mkdir(parents=True, exist_ok=True)
     with tempfile.TemporaryDirectory(prefix="planted-") as name:
         room = Path(name).resolve()
         shutil.copytree(TOP / "crates", room / "crates", ignore=shutil.ignore_patterns("out", "target"))
         for file in ("bonsai", "crates.txt"):
             shutil.copy2(TOP / file, room / file)
-        if fault:
+        for fault in faults:
             planted(fault, room / "crates" / fault.file)
         launcher = launcher_of(room)
         if not launcher.kit():

@@ -4,6 +4,8 @@ import random
 
 import pytest
 
+from bonsainet.ask.program import Answer
+from hostile import asked_run, asked_shut
 from hostile.asked_run import text_of
 from hostile.judge import answers, asked, asked_words, questions, rests
 from hostile.judge.rests import Down
@@ -168,3 +170,32 @@ def test_a_loss_is_what_the_text_says_in_which_the_session_is_shut_or_the_interf
         except rests.TooLarge:
             pass
     assert min(seen.values()) > 10
+
+
+class Echo:
+    """A program that answers by the text and the words alone."""
+
+    def __init__(self, told):
+        self.told = told
+
+    def ask(self, *words, texts):
+        """An answer."""
+        return Answer(0, self.told("shutdown" in texts["F"].decode() or "without" in words).encode(), b"")
+
+
+def test_a_loss_is_asked_in_two_ways():
+    text = "".join(f"{line}\n" for line in disputes.text(random.Random(2)).splitlines()).encode()
+    net = answers.read(text)
+    same = Echo(lambda is_lost: f"class 1 solutions {int(is_lost)}\n")
+    assert asked_shut.fault(same, random.Random(1), text, net) is None
+    other = type(
+        "Other", (Echo,), {"ask": lambda self, *words, texts: Answer(0, str("without" in words).encode(), b"")}
+    )
+    words, why = asked_shut.fault(other(None), random.Random(1), text, net)
+    assert words[1] == "without" and "as of the text that is shut" in why
+
+
+def test_a_run_is_left_out_by_name_without_a_program(monkeypatch, capsys):
+    monkeypatch.setattr(asked_run, "TOP", asked_run.TOP / "nowhere")
+    assert asked_run.main(["--seconds", "1"]) == 0
+    assert capsys.readouterr().out.startswith("ask: left out: the repository has no bonsai-ask")

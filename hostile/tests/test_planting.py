@@ -7,12 +7,23 @@ from pathlib import Path
 
 import pytest
 
-from hostile.planting import copies, expecting, judge_faults, program_faults, record, tool_faults, tools
+from hostile.asked_run import Found
+from hostile.planting import (
+    ask_faults,
+    asked,
+    copies,
+    expecting,
+    judge_faults,
+    program_faults,
+    record,
+    tool_faults,
+    tools,
+)
 from hostile.planting.fault import Fault
 from bonsainet.ask.program import TOP
 
 ALL = [(TOP / "hostile" / "judge", fault) for fault in judge_faults.FAULTS] + [
-    (TOP / "crates", fault) for fault in program_faults.FAULTS
+    (TOP / "crates", fault) for fault in [*program_faults.FAULTS, *ask_faults.FAULTS]
 ]
 ALL += [(TOP, fault) for fault in tool_faults.FAULTS]
 
@@ -116,3 +127,32 @@ def test_a_fault_of_the_tools_is_seen(tmp_path: Path) -> None:
     text = page.read_text()
     assert "| tools | a file is written in its place | `test_x` | 1 |" in text and "Seen: 1 of 1." in text
     assert "old" not in text and text.endswith(f"{tools.END}\nbehind\n")
+
+
+def test_there_are_ten_faults_of_the_program_that_answers_questions() -> None:
+    """Their names differ, and those of one copy are told apart by their signs: no fault has the sign of another."""
+    assert len({fault.name for fault in ask_faults.FAULTS}) == len(ask_faults.FAULTS) >= 10
+    for faults in asked.by_copy([]).values():
+        assert len({fault.sign for fault in faults}) == len(faults)
+
+
+def test_a_fault_is_found_by_its_sign(tmp_path: Path, monkeypatch: pytest.MonkeyPatch) -> None:
+    """What differs is read from the kept words; a fault that does not show is not found."""
+    told = {"a": "words 1 hops 2 r1\nexpected a line 'class 1 no'\nstatus 0\n", "b": "words 1 count\nexpected x\n"}
+    for name, text in told.items():
+        (tmp_path / f"{name}.txt").write_text(text)
+    monkeypatch.setattr(asked, "run", lambda *_: Found(texts=50, differences=sorted(told)))
+    faults = {fault.name: fault for fault in ask_faults.FAULTS}
+    found = asked.tried([faults["hops-below"], faults["carries-none"]], tmp_path, 1, 0.2, tmp_path)
+    assert [(one.fault.name, one.words) for one in found] == [("hops-below", "1 hops 2 r1"), ("carries-none", "")]
+    assert found[0].texts == 50
+
+
+def test_the_table_of_found_faults_is_written(tmp_path: Path) -> None:
+    """Between its marks, in the order of the faults."""
+    page = tmp_path / "README.md"
+    page.write_text(f"a\n{asked.BEGIN}\nold\n{asked.END}\nb\n")
+    for fault, words in zip(ask_faults.FAULTS[:2], ("", "1 hops 2 r1")):
+        asked.keep(asked.Seen(fault, words, 50), tmp_path / "kept.json", page)
+    assert "Found: 1 of the 2 that were tried." in page.read_text()
+    assert page.read_text().startswith(f"a\n{asked.BEGIN}\n| layer") and page.read_text().endswith(f"{asked.END}\nb\n")

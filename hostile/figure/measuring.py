@@ -1,0 +1,165 @@
+"""Processor seconds for `route '*'` by a solver and by programs, and what FRR takes to come to rest."""
+
+from __future__ import annotations
+
+import dataclasses
+import resource
+import subprocess
+import tempfile
+from pathlib import Path
+
+from bonsainet.cli.command_line import Refused
+from bonsainet.configs.network import read_network
+from bonsainet.exporting import frr
+from bonsainet.lab.enclosure import run_plan
+from bonsainet.lab.plan import plan_of
+from hostile.figure.networks import Family
+from hostile.judge import answers
+from hostile.judge.problem import Network
+from hostile.judge.questions import class_of
+from hostile.judge.rests import Down
+from hostile.solver.smt import PROGRAM
+from hostile.solver.solving import route_texts
+
+MOST_SECONDS = 60
+MOST_MEMORY = 8 << 30
+MOST_ON_FRR = 32
+FRR_SECONDS = 240
+QUIET = 4.0
+GAVE_UP = float("inf")
+
+
+class Disagreement(Exception):
+    """Two of those that were asked answer otherwise."""
+
+
+@dataclasses.dataclass
+class Row:
+    """A network before and after `compress`: its sizes, and processor seconds of each. None: not tried; infinite: given
+    up after a minute. Those of FRR are of all daemons together until they rest; `rest` is by the clock, and given up
+    after four minutes."""
+
+    family: str
+    size: int
+    routers: int
+    links: int
+    groups: int
+    links_after: int
+    answer: str
+    compress: float | None
+    solver: float | None
+    solver_after: float | None
+    ask: float | None
+    ask_after: float | None
+    frr: float | None = None
+    frr_after: float | None = None
+    rest: float | None = None
+    rest_after: float | None = None
+
+
+def ran(words: list[str]) -> tuple[str, float]:
+    """What a program writes, and its processor seconds; infinite ones where it was given up."""
+    before = resource.getrusage(resource.RUSAGE_CHILDREN)
+    done = subprocess.run(words, capture_output=True, text=True, check=False, preexec_fn=_limited)
+    after = resource.getrusage(resource.RUSAGE_CHILDREN)
+    if done.returncode < 0:
+        return "", GAVE_UP
+    return done.stdout, after.ru_utime + after.ru_stime - before.ru_utime - before.ru_stime
+
+
+def _limited() -> None:
+    resource.setrlimit(resource.RLIMIT_CPU, (MOST_SECONDS, MOST_SECONDS))
+
+
+def by_solver(text: str, prefix: str) -> tuple[str, float]:
+    """The answer of Z3, and its processor seconds. Those that Python takes to write the formulas are not counted."""
+    net = answers.read(text.encode())
+    number = class_of(net, prefix) if isinstance(net, Network) else None
+    if number is None or not isinstance(net, Network):
+        raise Refused(f"no class has {prefix}")
+    told, seconds = [], 0.0
+    for formulas in route_texts(net, number, Down()):
+        with tempfile.NamedTemporaryFile("w", suffix=".smt2") as file:
+            file.write(formulas)
+            file.flush()
+            out, took = ran([PROGRAM, f"-memory:{MOST_MEMORY >> 20}", file.name])
+        seconds += took
+        told.append(out.strip())
+        if told[-1] not in ("sat", "unsat"):
+            return "", GAVE_UP
+        if told == ["sat"]:
+            return "no", seconds
+    return "yes" if told[-1] == "sat" else "none", seconds
+
+
+def by_program(program: Path, text: str, prefix: str) -> tuple[str, float]:
+    """The answer of `bonsai-ask`, and its processor seconds."""
+    with tempfile.NamedTemporaryFile("w", suffix=".cfg") as file:
+        file.write(text)
+        file.flush()
+        out, seconds = ran([str(program), file.name, prefix, "route", "*"])
+    return (out.split()[2] if out else ""), seconds
+
+
+def compressed(bonsai: Path, text: str, prefix: str) -> tuple[str, float]:
+    """What `compress` writes for the class of a prefix, and its processor seconds."""
+    net = answers.read(text.encode())
+    assert isinstance(net, Network)
+    number = class_of(net, prefix)
+    assert number is not None
+    with tempfile.NamedTemporaryFile("w", suffix=".cfg") as file:
+        file.write(text)
+        file.flush()
+        return ran([str(bonsai), "compress", file.name, str(number + 1)])
+
+
+def on_frr(text: str, prefix: str) -> tuple[float, float]:
+    """The processor seconds of all daemons, and the seconds by the clock, until FRR rests."""
+    network = read_network(text, "F")
+    plan = plan_of(network, frr.export(network, with_lab_timers=True), [prefix])
+    try:
+        record = run_plan(plan, FRR_SECONDS, QUIET)
+    except Refused:
+        return GAVE_UP, GAVE_UP
+    return record["work"], record["rest"]
+
+
+def sizes(text: str) -> tuple[int, int]:
+    """Routers and links of a text."""
+    net = answers.read(text.encode())
+    assert isinstance(net, Network)
+    return len(net.routers), len(net.links)
+
+
+def measured(bonsai: Path, ask: Path, family: Family, size: int, before: Row | None) -> Row:
+    """The row of a size. What was given up at the size before is not tried again. Disagreement where answers differ."""
+    text, prefix = family.text(size), family.prefix
+    small, compress = compressed(bonsai, text, prefix)
+    told: dict[str, str] = {}
+    found: dict[str, float | None] = {}
+    for name, given in (("", text), ("_after", small)):
+        for who in ("solver", "ask"):
+            if before and getattr(before, who + name) in (None, GAVE_UP):
+                found[who + name] = None
+                continue
+            answer, seconds = by_solver(given, prefix) if who == "solver" else by_program(ask, given, prefix)
+            found[who + name] = seconds
+            if seconds != GAVE_UP:
+                told[who + name] = answer
+    if len(set(told.values())) > 1:
+        raise Disagreement(f"{family.name} {size}: {told}")
+    routers, links = sizes(text)
+    groups, links_after = sizes(small)
+    return Row(
+        family.name, size, routers, links, groups, links_after, next(iter(told.values()), ""), compress,
+        found["solver"], found["solver_after"], found["ask"], found["ask_after"],
+    )  # fmt: skip
+
+
+def measure_frr(bonsai: Path, family: Family, row: Row) -> None:
+    """Puts into a row what FRR takes to rest, before and after `compress`, where it is small enough."""
+    text = family.text(row.size)
+    if row.routers <= MOST_ON_FRR:
+        row.frr, row.rest = on_frr(text, family.prefix)
+    if row.groups <= MOST_ON_FRR:
+        row.frr_after, row.rest_after = on_frr(compressed(bonsai, text, family.prefix)[0], family.prefix)

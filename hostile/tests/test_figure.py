@@ -1,0 +1,57 @@
+"""The figure: its networks, its table and its plot. Nothing is measured but small networks."""
+
+import math
+
+import pytest
+
+from hostile.figure import command, drawing, measuring, networks
+from hostile.judge import answers
+from hostile.judge.questions import class_of
+from hostile.solver import smt
+
+INF = math.inf
+ROW = measuring.Row("ring", 16, 16, 16, 9, 8, "yes", 0.02, 12.345, 0.5, INF, 0.01, None, 3.0, None, 4.0)
+
+
+@pytest.mark.parametrize("family", networks.FAMILIES, ids=lambda family: family.name)
+def test_the_smallest_network_of_a_family_has_the_prefix(family):
+    net = answers.read(family.text(family.sizes[0]).encode())
+    assert not isinstance(net, answers.Expected) and class_of(net, family.prefix) is not None
+    assert list(family.sizes) == sorted(set(family.sizes))
+
+
+def test_each_spine_of_the_data_centre_tags_by_a_community_of_its_own():
+    net = answers.read(networks.data_centre(4).encode())
+    spines = [router for router in net.routers if router.maps]
+    tags = {value for router in spines for value, _ in router.named}
+    assert len(spines) == len(tags) == networks.SPINES
+
+
+@pytest.mark.skipif(not smt.is_there(), reason="the package z3 is not there")
+def test_the_solver_answers_with_its_processor_seconds():
+    answer, seconds = measuring.by_solver(networks.FAMILIES[0].text(4), networks.FAMILIES[0].prefix)
+    assert answer == "yes" and 0 < seconds < 60
+
+
+def test_a_program_that_is_ended_by_its_limit_was_given_up(monkeypatch):
+    monkeypatch.setattr(measuring, "MOST_SECONDS", 1)
+    assert measuring.ran(["sh", "-c", "while :; do :; done"]) == ("", INF)
+
+
+def test_the_table_says_what_was_given_up_and_what_was_not_tried():
+    assert drawing.table([ROW]).splitlines()[2] == (
+        "| ring | 16 | 16 | 9 | 8 | 0.02 | 12 | 0.50 | given up | 0.01 |  | 3.00 |"
+    )
+
+
+def test_rows_are_kept_and_read_again(tmp_path, monkeypatch):
+    monkeypatch.setattr(command, "KEPT", tmp_path / "asked.csv")
+    command.keep([ROW], "as it was made")
+    assert command.read(tmp_path / "asked.csv") == [ROW]
+
+
+def test_the_same_rows_give_the_same_plot(tmp_path):
+    pytest.importorskip("matplotlib", reason="the package python3-matplotlib is not there")
+    for name in ("one.svg", "two.svg"):
+        drawing.draw([ROW, measuring.Row("mesh", 8, 8, 28, 2, 1, "yes", 0.1, 1.0, 0.1, 0.1, 0.1)], tmp_path / name)
+    assert (tmp_path / "one.svg").read_bytes() == (tmp_path / "two.svg").read_bytes()
