@@ -12,6 +12,7 @@ from collections.abc import Iterator, Sequence
 
 from bonsainet.configs.compressed import Asked, Compressed, side_by_side
 from bonsainet.doubts.finding import Doubt, doubt
+from bonsainet.doubts.untied import ties_told
 from bonsainet.ask.labels import BgpLabel, Label, read_solution, solution_text
 from bonsainet.configs.network import End, Network
 from bonsainet.configs.profile import community_text
@@ -80,18 +81,38 @@ def doubts_of_ties(program: Program, asked: Asked, numbers: list[int]) -> Iterat
     asked."""
     if asked.network.protocol != "bgp":
         return
-    for classes, found in ties_of_each(program, asked.compress_each(program, numbers)):
+    told = ties_told(asked.text)
+    for classes, found in ties_of_each(program, asked.compress_each(program, numbers), told):
         yield from _doubts(asked, classes, found)
+        yield from _told_alone(asked, classes, found, told)
 
 
-def ties_of_each(program: Program, found: Sequence[Compressed]) -> list[tuple[list[Compressed], list[Tied] | str]]:
+def ties_of_each(
+    program: Program, found: Sequence[Compressed], told: dict[int, tuple[str, str] | None]
+) -> list[tuple[list[Compressed], list[Tied] | str]]:
     """The ties of some classes of BGP, or why they were not asked, once for all classes that are alike but for their
-    prefixes."""
+    prefixes. Of classes in which bonsai-ask met no tie nothing is asked."""
     shapes: dict[object, list[Compressed]] = {}
     for small in found:
         shapes.setdefault(small.shape, []).append(small)
     alike = list(shapes.values())
-    return list(zip(alike, side_by_side(lambda classes: tied_groups(program, classes[0]), alike)))
+
+    def ties(classes: list[Compressed]) -> list[Tied] | str:
+        has_none = all(told.get(one.number, ("", "")) is None for one in classes)
+        return [] if has_none else tied_groups(program, classes[0])
+
+    return list(zip(alike, side_by_side(ties, alike)))
+
+
+def _told_alone(
+    asked: Asked, classes: list[Compressed], found: list[Tied] | str, told: dict[int, tuple[str, str] | None]
+) -> Iterator[Doubt]:
+    """A tie that bonsai-ask names, and that was not met where the originators alone begin."""
+    named = told.get(classes[0].number)
+    if named and found == []:
+        line = asked.network.by_name[named[0]].bgp.line
+        words = f"class {classes[0].number}: bonsai-ask meets two routes of one preference and length here, which differ in {named[1]}"
+        yield doubt("tie", named[0], line, f"{words}, and real routers may hold either")
 
 
 def ties_by_class(program: Program, asked: Asked, found: Sequence[Compressed]) -> dict[int, list[Tied] | str]:
@@ -99,7 +120,8 @@ def ties_by_class(program: Program, asked: Asked, found: Sequence[Compressed]) -
     BGP."""
     if asked.network.protocol != "bgp":
         return {}
-    return {one.number: ties for classes, ties in ties_of_each(program, found) for one in classes}
+    told = ties_told(asked.text)
+    return {one.number: ties for classes, ties in ties_of_each(program, found, told) for one in classes}
 
 
 def _doubts(asked: Asked, classes: list[Compressed], found: list[Tied] | str) -> Iterator[Doubt]:

@@ -25,9 +25,9 @@ Lines that originate nothing, neighbours in no session, interfaces in the area w
 ends differ in timers, authentication, MTU or password, which Bonsai takes to agree, lists and maps that nothing uses, entries that
 nothing reaches, each with the reason. Ties: where at rest two routes of a router have one preference and one length, and communities
 or lone numbers decided. Real routers break these by age or identifier, and may rest elsewhere; the program is asked for them on the
-compressed network of each class, by `run` and `check`. Paths that pass two routers of one AS number, where bonsai-import --own-as gave
-them numbers of their own. With --folder: links that the raw folder suggests, by two interfaces in one subnet, and the text has not. A
-doubt is no fault: the status is 0."""
+compressed network of each class, by `run` and `check`, and bonsai-ask, where it is at hand, for the classes without any. Paths that
+pass two routers of one AS number, where bonsai-import --own-as gave them numbers of their own. With --folder: links that the raw folder
+suggests, by two interfaces in one subnet, and the text has not. A doubt is no fault: the status is 0."""
 
 
 def words() -> argparse.ArgumentParser:

@@ -212,6 +212,7 @@ def sessions(router: Router) -> None:
                 "maximum-prefix 100",
                 "bfd",
                 "capability orf prefix-list both",
+                "capability extended-nexthop",
                 "timers 3 9",
             )
         ]
@@ -220,6 +221,7 @@ def sessions(router: Router) -> None:
         for text in (
             "maximum-paths 8",
             "bgp bestpath compare-routerid",
+            "bgp dampening",
             "bgp always-compare-med",
             "distance bgp 20 200 200",
             "neighbor 198.51.100.9 remote-as internal",

@@ -62,3 +62,9 @@ def test_words_of_no_form_stay_as_they_are(word: str, tmp_path: Path) -> None:
 def test_what_is_found_before_the_class(tmp_path: Path) -> None:
     assert asked(tmp_path, "groups", "none", "10.1.1.0/24") == (3, b"", b"read fault: none\n")
     assert asked(tmp_path, "groups", "-", "10.1.1.0/24", given="bad\n") == (1, b"", b"refused: line 1: UnknownLine\n")
+
+
+def test_a_folder_is_no_text(tmp_path: Path) -> None:
+    (tmp_path / "folder").mkdir()
+    told = b"bonsai: a folder is no text: bonsai-import makes one text of it\nread fault: folder\n"
+    assert asked(tmp_path, "groups", "folder", "1") == (3, b"", told)
