@@ -14,6 +14,7 @@ import os
 import re
 import shutil
 import subprocess
+import sys
 from pathlib import Path
 from typing import BinaryIO
 
@@ -225,7 +226,9 @@ def groups_of(text: str) -> list[Group]:
     for line in text.splitlines():
         head, _, members = line.partition(":")
         marks = head.split()[2:]
-        found.append(Group(int(head.split()[1]), "origin" in marks, "lone" in marks, tuple(members.split())))
+        found.append(
+            Group(int(head.split()[1]), "origin" in marks, "lone" in marks, tuple(map(sys.intern, members.split())))
+        )
     return found
 
 

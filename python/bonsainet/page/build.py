@@ -2,12 +2,14 @@
 from __future__ import annotations
 
 import dataclasses
+import hashlib
 import re
 from collections import Counter
-from collections.abc import Hashable
+from collections.abc import Callable, Sequence
 from typing import Any
 
 from bonsainet.configs.compressed import Asked, Compressed, side_by_side
+from bonsainet.configs.network import read_network
 from bonsainet.document.build import unmatched
 from bonsainet.doubts.ties import Tied
 from bonsainet.drawing.graph import Graph, Node, large, small
@@ -21,6 +23,9 @@ from bonsainet.cli.words import counted
 
 GROUPS_DRAWN = 60
 EDGES_DRAWN = 240
+NOTHING = read_network("", "")
+
+TiesOf = Callable[[list[Compressed]], dict[int, list[Tied] | str]]
 
 
 @dataclasses.dataclass(frozen=True)
@@ -76,27 +81,48 @@ class Row:
         return color_of(self.first.groups)
 
 
-def rows(text: Asked, found: list[Compressed], ties: dict[int, list[Tied] | str] | None = None) -> list[Row]:
-    """The rows of the table, in the order of their first classes."""
-    tied = ties or {}
-    merged: dict[Hashable, list[Compressed]] = {}
-    for each in found:
-        merged.setdefault(each.shape, []).append(each)
-    # (one run of Graphviz for many pictures would take a tenth of the time; version 2.43 crashes on some)
-    return side_by_side(
-        lambda classes: Row(classes, *_picture(text, classes[0]), tied.get(classes[0].number)), merged.values()
-    )
+class Rows:
+    """The rows of the table, in the order of their first classes. They hold texts, groups and pictures, and no network of a
+    class: of a large network few classes are in memory as a whole."""
+
+    def __init__(self, text: Asked) -> None:
+        self.text = text
+        self.of_shape: dict[bytes, Row] = {}
+
+    def add(self, found: Sequence[Compressed], ties_of: TiesOf) -> None:
+        """Takes some classes. The ties are asked of the first class of a row."""
+        shapes = [hashlib.sha256(repr(each.shape).encode()).digest() for each in found]
+        first = {shape: each for shape, each in reversed([*zip(shapes, found)]) if shape not in self.of_shape}
+        new = sorted(first.items(), key=lambda item: item[1].number)
+        tied = ties_of([each for _, each in new])
+        # (one run of Graphviz for many pictures would take a tenth of the time; version 2.43 crashes on some)
+        drawn = side_by_side(lambda item: _picture(self.text, item[1]), new)
+        for (shape, each), (made, left_out) in zip(new, drawn):
+            self.of_shape[shape] = Row([], made, left_out, tied.get(each.number))
+        for shape, each in zip(shapes, found):
+            self.of_shape[shape].classes.append(dataclasses.replace(each, network=NOTHING))
+
+    @property
+    def all(self) -> list[Row]:
+        """The rows."""
+        return list(self.of_shape.values())
+
+
+def rows(text: Asked, found: Sequence[Compressed], ties: dict[int, list[Tied] | str] | None = None) -> list[Row]:
+    """The rows of some classes."""
+    made = Rows(text)
+    made.add(found, lambda _: ties or {})
+    return made.all
 
 
 def everything(
     text: Asked,
-    found: list[Compressed],
+    shown: list[Row],
     told_by_import: dict[str, Any] | None,
     program: Identity,
-    ties: dict[int, list[Tied] | str] | None = None,
+    has_ties: bool = False,
 ) -> dict[str, Any]:
     """All that the template is given."""
-    shown = rows(text, found, ties)
     numbers = Numbers(text.network.by_name)
     return {
         "names": numbers.names,
@@ -110,8 +136,8 @@ def everything(
         "classes": len(text.classes),
         "rows": shown,
         "with_ties": sum(len(row.classes) for row in shown if row.ties),
-        "asked_ties": ties is not None and text.network.protocol == "bgp",
-        "large": large_picture(text, found),
+        "asked_ties": has_ties and text.network.protocol == "bgp",
+        "large": large_picture(text, shown),
         "unmatched": unmatched(text.network),
         "told_by_import": told_by_import,
         "closed": CLOSED,
@@ -119,16 +145,16 @@ def everything(
     }
 
 
-def large_picture(text: Asked, found: list[Compressed]) -> str:
+def large_picture(text: Asked, shown: list[Row]) -> str:
     """The large network, laid out once for all classes and coloured by the page. Empty where it is too large for that.
 
     The routers with fewest links are below, the others by their distance from these; a network without such layers is
     laid out by springs.
     """
-    if not found or _is_too_large(text):
+    if not shown or _is_too_large(text):
         return ""
     graph = large(
-        text.network, dataclasses.replace(found[0], groups=[Group(1, False, False, tuple(text.network.by_name))])
+        text.network, dataclasses.replace(shown[0].first, groups=[Group(1, False, False, tuple(text.network.by_name))])
     )
     degree = Counter(name for edge in graph.edges for name in (edge.low, edge.high))
     fewest = min((degree[node.name] for node in graph.nodes), default=0)

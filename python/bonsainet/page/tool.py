@@ -13,11 +13,12 @@ from bonsainet.cli.command_line import Refused, name_of, parser, read_input, ver
 from bonsainet.configs.compressed import asked
 from bonsainet.doubts.ties import ties_by_class
 from bonsainet.importing.report import FAILED, TITLES
-from bonsainet.page.build import everything
+from bonsainet.page.build import Rows, everything
 from bonsainet.ask.program import Program
 
 
 LONGEST_REPORT = 1 << 30
+AT_A_TIME = 64
 
 
 def words() -> argparse.ArgumentParser:
@@ -47,9 +48,13 @@ def work(arguments: argparse.Namespace) -> None:
     program = Program()
     told = read_report(arguments.import_report) if arguments.import_report else None
     text = asked(program, read_input(arguments.file), name_of(arguments.file))
-    found = text.compress_each(program, [each.number for each in text.classes], "bonsai-page")
-    ties = None if arguments.no_ties else ties_by_class(program, text, found)
-    page = html(everything(text, found, told, program.identity, ties))
+    has_ties = not arguments.no_ties
+    rows, numbers = Rows(text), [each.number for each in text.classes]
+    for first in range(0, len(numbers), AT_A_TIME):
+        of = range(first, len(numbers))
+        found = text.compress_each(program, numbers[first : first + AT_A_TIME], "bonsai-page", of)
+        rows.add(found, lambda new: ties_by_class(program, text, new) if has_ties else {})
+    page = html(everything(text, rows.all, told, program.identity, has_ties))
     write_output(arguments.output, page.encode(), arguments.file)
 
 

@@ -79,7 +79,7 @@ def test_a_picture_that_graphviz_refuses_is_left_out_of_the_page(monkeypatch: py
 
     monkeypatch.setattr(build, "laid_out", refuse)
     text = example("campus.cfg")
-    shown = build.everything(text, text.compress_each(Program(), [1, 2]), None, Program().identity)
+    shown = build.everything(text, build.rows(text, text.compress_each(Program(), [1, 2])), None, Program().identity)
     assert shown["large"] == "" and {row.left_out for row in shown["rows"]} == {"the program dot failed: no"}
 
 

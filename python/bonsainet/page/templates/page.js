@@ -62,6 +62,8 @@ function color(picture, groups, {colors, origins, lone}) {
   for (const node of picture.querySelectorAll("g.node")) {
     const name = node.querySelector("text").textContent;
     const shape = node.querySelector("rect");
+    // A cost beside a link is a node without a box.
+    if (!shape) continue;
     if (fill[name]) shape.setAttribute("fill", fill[name]);
     shape.setAttribute("stroke-width", isOrigin.has(name) ? "3.5" : "1");
     shape.setAttribute("stroke-dasharray", isLone.has(name) ? "5,2" : "none");

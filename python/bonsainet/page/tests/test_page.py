@@ -15,7 +15,7 @@ pytest.importorskip("jinja2", reason="the package python3-jinja2 is not there: t
 from bonsainet.doubts.tests.test_ties import SETS, text_of
 from bonsainet.doubts.ties import ties_by_class
 from bonsainet.drawing.layout import CLOSED
-from bonsainet.page.build import everything, inline, rows
+from bonsainet.page.build import NOTHING, Rows, everything, inline, rows
 from bonsainet.page.members import Numbers, folded, unfolded
 from bonsainet.page.tool import html as page_of, read_report
 from bonsainet.nets.campus import campus_text
@@ -31,13 +31,23 @@ pytestmark = pytest.mark.skipif(not shutil.which("dot"), reason="the package gra
 def page(name: str, told_by_import: dict | None = None) -> str:
     text = example(name)
     found = [compressed(name, each.number) for each in text.classes]
-    return page_of(everything(text, found, told_by_import, Program().identity))
+    return page_of(everything(text, rows(text, found), told_by_import, Program().identity))
 
 
 def test_classes_that_are_alike_but_for_their_prefixes_share_a_row() -> None:
     text = asked(Program(), TWO_ALIKE.encode(), "two-alike.cfg")
     found = rows(text, text.compress_each(Program(), [1, 2]))
     assert [(row.numbers, row.prefixes) for row in found] == [("1 2", ["10.1.0.0/24", "10.2.0.0/24"])]
+
+
+def test_rows_are_the_same_however_many_classes_come_at_a_time() -> None:
+    text = asked(Program(), TWO_ALIKE.encode(), "two-alike.cfg")
+    found, asked_of = text.compress_each(Program(), [1, 2]), []
+    made = Rows(text)
+    for each in found:
+        made.add([each], lambda new: asked_of.append([one.number for one in new]) or {})
+    assert made.all == rows(text, found) and asked_of == [[1], []]
+    assert all(one.network is NOTHING and one.text for row in made.all for one in row.classes)
 
 
 def test_classes_of_equal_groups_and_other_costs_have_rows_of_their_own() -> None:
@@ -73,7 +83,7 @@ def test_names_stand_once_however_many_the_classes_are() -> None:
     for access in (3, 6):
         text = asked(Program(), campus_text(2, access).encode(), "F")
         found = text.compress_each(Program(), [each.number for each in text.classes])
-        made = page_of(everything(text, found, None, Program().identity))
+        made = page_of(everything(text, rows(text, found), None, Program().identity))
         origins = {router for each in text.classes for router, _ in each.origins}
         shown = re.sub(r"<svg.*?</svg>", "", made, flags=re.S)
         # (the page names a router once, and each that is the first of its group in compressed texts)
@@ -99,7 +109,9 @@ def test_nothing_is_loaded_from_elsewhere() -> None:
 def test_ties_are_told_first() -> None:
     text = asked(Program(), text_of({"m1 u": "route-map OUT out"}, {"m1": SETS}).encode(), "tie.cfg")
     found = text.compress_each(Program(), [1])
-    made = page_of(everything(text, found, None, Program().identity, ties_by_class(Program(), text, found)))
+    made = page_of(
+        everything(text, rows(text, found, ties_by_class(Program(), text, found)), None, Program().identity, True)
+    )
     assert "In 1 of 1 classes routers hold a tied route" in made
     number = [*text.network.by_name].index("u") + 1
     row = (
@@ -113,14 +125,14 @@ def test_a_network_without_ties_says_so() -> None:
     text = asked(Program(), text_of({}, {}).encode(), "none.cfg")
     found = text.compress_each(Program(), [1])
     assert "No router holds a tied route" in page_of(
-        everything(text, found, None, Program().identity, ties_by_class(Program(), text, found))
+        everything(text, rows(text, found, ties_by_class(Program(), text, found)), None, Program().identity, True)
     )
     assert "tied route" not in page("campus.cfg")
 
 
 def test_control_bytes_in_the_name_of_a_file() -> None:
     text = dataclasses.replace(example("two-routers.cfg"), name="a\x01b\x1b[31m<i>.cfg")
-    made = page_of(everything(text, [compressed("two-routers.cfg", 1)], None, Program().identity))
+    made = page_of(everything(text, rows(text, [compressed("two-routers.cfg", 1)]), None, Program().identity))
     assert "<title>Bonsai: a\\x01b\\x1b[31m&lt;i&gt;.cfg</title>" in made
     assert all(letter == "\n" or letter.isprintable() for letter in made)
 
@@ -240,10 +252,10 @@ def test_sorting_searching_and_opening(browser: object, tmp_path: Path) -> None:
     assert shown(browser, "#open h2") == ["Class 10"]
     assert shown(browser, "#open .groups td:last-child") == ["core1 core2", "dist1", "dist2", "access1", "access2"]
     fills = browser.execute_script(
-        "return Object.fromEntries(Array.from(document.querySelectorAll('#open figure:first-child g.node')).map(n => [n.textContent.trim(), n.querySelector('rect').getAttribute('fill')]))"
+        "return Object.fromEntries(Array.from(document.querySelectorAll('#open figure:first-child g.node')).filter(n => n.querySelector('rect')).map(n => [n.textContent.trim(), n.querySelector('rect').getAttribute('fill')]))"
     )
     assert fills["core1"] == fills["core2"] != "#ffffff" and fills["dist1"] == "#ffffff" and len(fills) == 6
-    assert len(browser.find_elements("css selector", "#open figure:nth-child(2) g.node")) == 5
+    assert len(browser.find_elements("css selector", "#open figure:nth-child(2) g.node:has(rect)")) == 5
     browser.find_element("css selector", "#open summary").click()
     assert shown(browser, "#open pre")[0] == compressed("campus.cfg", 10).text.strip()
     browser.find_element("css selector", "#open button.copy").click()
@@ -279,6 +291,6 @@ def test_the_fat_tree_of_twenty_is_small_and_opens_soon(browser: object, tmp_pat
 def test_the_page_says_which_program_answered(is_proved: bool) -> None:
     text = example("two-routers.cfg")
     program = Identity("0123456789abcdef" * 4, is_proved, "kit-<1>")
-    made = page_of(everything(text, [compressed("two-routers.cfg", 1)], None, program))
+    made = page_of(everything(text, rows(text, [compressed("two-routers.cfg", 1)]), None, program))
     kind = "the proved program" if is_proved else "a program that is not proved"
     assert f"{kind}, SHA-256 0123456789abcdef, made with kit-&lt;1&gt;;" in made
