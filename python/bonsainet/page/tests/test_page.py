@@ -13,14 +13,14 @@ pytest.importorskip("graphviz", reason="the package python3-graphviz is not ther
 pytest.importorskip("jinja2", reason="the package python3-jinja2 is not there: the page is not tried")
 
 from bonsainet.doubts.tests.test_ties import SETS, text_of
-from bonsainet.doubts.ties import ties_by_class
+from bonsainet.doubts.ties import Tied, ties_by_class
 from bonsainet.drawing.layout import CLOSED
 from bonsainet.page.build import NOTHING, Rows, everything, inline, rows
 from bonsainet.page.members import Numbers, folded, unfolded
 from bonsainet.page.tool import html as page_of, read_report
 from bonsainet.nets.campus import campus_text
 from bonsainet.nets.fat_tree import fat_tree_text
-from bonsainet.configs.compressed import asked
+from bonsainet.configs.compressed import Compressed, asked
 from bonsainet.ask.program import Group, Program
 from bonsainet.ask.where import Identity
 from bonsainet.tests.asking import TWO_ALIKE, compressed, example, place_of, tool, wait_for
@@ -41,11 +41,17 @@ def test_classes_that_are_alike_but_for_their_prefixes_share_a_row() -> None:
 
 
 def test_rows_are_the_same_however_many_classes_come_at_a_time() -> None:
+    """The ties are asked of the first class of a row alone."""
     text = asked(Program(), TWO_ALIKE.encode(), "two-alike.cfg")
-    found, asked_of = text.compress_each(Program(), [1, 2]), []
-    made = Rows(text)
+    found, made = text.compress_each(Program(), [1, 2]), Rows(text)
+    asked_of: list[list[int]] = []
+
+    def ties_of(new: list[Compressed]) -> dict[int, list[Tied] | str]:
+        asked_of.append([one.number for one in new])
+        return {}
+
     for each in found:
-        made.add([each], lambda new: asked_of.append([one.number for one in new]) or {})
+        made.add([each], ties_of)
     assert made.all == rows(text, found) and asked_of == [[1], []]
     assert all(one.network is NOTHING and one.text for row in made.all for one in row.classes)
 
