@@ -28,7 +28,7 @@ class End:
     @property
     def address(self) -> IPv4Address:
         """The address of the interface."""
-        return self.interface.address.ip
+        return self.interface.own_address.ip
 
     @property
     def cost(self) -> int | None:
@@ -46,7 +46,7 @@ class Link:
     @property
     def subnet(self) -> IPv4Network:
         """The subnet in which both ends are."""
-        return self.low.interface.address.network
+        return self.low.interface.own_address.network
 
 
 @dataclasses.dataclass(frozen=True)
@@ -88,7 +88,7 @@ class Network:
         found: dict[IPv4Network, list[End]] = defaultdict(list)
         for device in self.devices:
             for interface in device.up_interfaces:
-                found[interface.address.network].append(End(device, interface))
+                found[interface.own_address.network].append(End(device, interface))
         return dict(found)
 
     @functools.cached_property
@@ -124,7 +124,7 @@ class Network:
         found = []
         for device in self.devices:
             for interface in device.up_interfaces:
-                prefix = interface.address.network
+                prefix = interface.own_address.network
                 if device.bgp and prefix in device.bgp.networks:
                     found.append(Origin(device.name, prefix, interface.name, None))
                 elif is_in_area(device, interface):
@@ -135,12 +135,12 @@ class Network:
         at = {end.address: end for ends in self.wires.values() for end in ends}
         found = []
         for device in self.devices:
-            own = {interface.address.network: interface for interface in device.up_interfaces}
+            own = {interface.own_address.network: interface for interface in device.up_interfaces}
             for neighbor in device.bgp.neighbors.values() if device.bgp else ():
                 far = at.get(neighbor.address)
-                near = own.get(far.interface.address.network) if far else None
-                if near and far.device is not device and far.device.bgp:
-                    back = far.device.bgp.neighbors.get(near.address.ip)
+                near = own.get(far.interface.own_address.network) if far else None
+                if near and far and far.device is not device and far.device.bgp:
+                    back = far.device.bgp.neighbors.get(near.own_address.ip)
                     if back and _agree(device, neighbor, far.device, back):
                         found.append(Link(End(device, near, neighbor), End(far.device, far.interface, back)))
         return self._in_order(found)
@@ -170,8 +170,8 @@ class Network:
 def _agree(device: Device, neighbor: Neighbor, far: Device, back: Neighbor) -> bool:
     """Whether two neighbour lines name each other's numbers, and neither is shut."""
     return (
-        neighbor.remote == far.bgp.number
-        and back.remote == device.bgp.number
+        neighbor.remote == far.own_bgp.number
+        and back.remote == device.own_bgp.number
         and not neighbor.is_shut
         and not back.is_shut
     )
@@ -180,13 +180,15 @@ def _agree(device: Device, neighbor: Neighbor, far: Device, back: Neighbor) -> b
 def is_in_area(device: Device, interface: Interface) -> bool:
     """Whether an up interface is in the OSPF area of its device."""
     return (
-        bool(device.ospf) and interface.is_up and any(line.covers(interface.address.ip) for line in device.ospf.areas)
+        bool(device.ospf)
+        and interface.is_up
+        and any(line.covers(interface.own_address.ip) for line in device.own_ospf.areas)
     )
 
 
 def is_active(device: Device, interface: Interface) -> bool:
     """Whether an interface is in the area and not passive, so that it can have adjacencies."""
-    return is_in_area(device, interface) and not device.ospf.is_passive(interface.name)
+    return is_in_area(device, interface) and not device.own_ospf.is_passive(interface.name)
 
 
 def read_network(text: str, file: str = "F") -> Network:

@@ -7,7 +7,7 @@ from __future__ import annotations
 
 import dataclasses
 import re
-from collections.abc import Iterator
+from collections.abc import Callable, Iterator
 from ipaddress import IPv4Address, IPv4Interface, IPv4Network
 
 from bonsainet.configs.text import Line, Router
@@ -35,6 +35,12 @@ class Interface:
     descriptions: list[str] = dataclasses.field(default_factory=list)
     lines: dict[str, Line] = dataclasses.field(default_factory=dict)
     ignored: list[Line] = dataclasses.field(default_factory=list)
+
+    @property
+    def own_address(self) -> IPv4Interface:
+        """The address of an interface that has one, as each has that is up."""
+        assert self.address
+        return self.address
 
     @property
     def is_up(self) -> bool:
@@ -185,6 +191,18 @@ class Device:
     is_stub: bool = False
 
     @property
+    def own_bgp(self) -> Bgp:
+        """The BGP process of a router that has one."""
+        assert self.bgp
+        return self.bgp
+
+    @property
+    def own_ospf(self) -> Ospf:
+        """The OSPF process of a router that has one."""
+        assert self.ospf
+        return self.ospf
+
+    @property
     def up_interfaces(self) -> Iterator[Interface]:
         """The interfaces that are up."""
         return (interface for interface in self.interfaces if interface.is_up)
@@ -206,7 +224,9 @@ def device_of(router: Router) -> Device:
     reader = _Reader(Device(router.name, next(iter(router.lines))))
     for line in router.lines:
         reader.take(line)
-    for entries in (*reader.device.prefix_lists.values(), *reader.device.maps.values()):
+    for listed in reader.device.prefix_lists.values():
+        listed.sort(key=lambda entry: entry.sequence)
+    for entries in reader.device.maps.values():
         entries.sort(key=lambda entry: entry.sequence)
     return reader.device
 
@@ -216,7 +236,7 @@ class _Reader:
 
     def __init__(self, device: Device) -> None:
         self.device = device
-        self.take_indented = self._ignore
+        self.take_indented: Callable[[Line, list[str]], None] = self._ignore
 
     def take(self, line: Line) -> None:
         words = line.words
@@ -230,7 +250,7 @@ class _Reader:
             self.take_indented = self._ignore
             self._top(line, words)
 
-    def _ignore(self, line: Line, _words: list[str]) -> None:
+    def _ignore(self, line: Line, words: list[str]) -> None:
         self.device.ignored.append(line)
 
     def _top(self, line: Line, words: list[str]) -> None:
@@ -294,7 +314,7 @@ class _Reader:
                 self._ignore(line, words)
 
     def _bgp(self, line: Line, words: list[str]) -> None:
-        process = self.device.bgp
+        process = self.device.own_bgp
         match words:
             case ["bgp", "default", "local-preference", value]:
                 process.preference = int(value)
@@ -311,8 +331,12 @@ class _Reader:
                 self._ignore(line, words)
 
     def _neighbor(self, line: Line, address: str, words: list[str]) -> None:
-        neighbor = self.device.bgp.neighbors.get(_address(address))
-        match words if neighbor else None:
+        named = _address(address)
+        neighbor = self.device.own_bgp.neighbors.get(named) if named else None
+        if not neighbor:
+            self._ignore(line, words)
+            return
+        match words:
             case ["shutdown"]:
                 neighbor.is_shut = True
                 neighbor.lines.setdefault("shut", line)
@@ -335,12 +359,11 @@ class _Reader:
                 neighbor.descriptions.append(" ".join(told))
                 neighbor.lines.setdefault("description", line)
             case _:
-                if neighbor:
-                    neighbor.ignored.append(line)
-                self._ignore(line, words or [])
+                neighbor.ignored.append(line)
+                self._ignore(line, words)
 
     def _ospf(self, line: Line, words: list[str]) -> None:
-        process = self.device.ospf
+        process = self.device.own_ospf
         match words:
             case ["passive-interface", "default"]:
                 process.is_passive_by_default = True

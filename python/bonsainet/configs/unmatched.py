@@ -17,12 +17,18 @@ def reason(network: Network, device: Device, neighbor: Neighbor) -> str:
     if far.device is device:
         return "the address is one of this router"
     near = next(
-        (interface for interface in device.up_interfaces if interface.address.network == far.interface.address.network),
+        (
+            interface
+            for interface in device.up_interfaces
+            if interface.own_address.network == far.interface.own_address.network
+        ),
         None,
     )
     if near is None:
-        return f"this router has no up interface in {far.interface.address.network}, the subnet of {far.device.name}"
-    return _without_agreement(device, neighbor, far, near.address.ip)
+        return (
+            f"this router has no up interface in {far.interface.own_address.network}, the subnet of {far.device.name}"
+        )
+    return _without_agreement(device, neighbor, far, near.own_address.ip)
 
 
 def _end_with(network: Network, address: IPv4Address) -> End | None:
@@ -48,4 +54,4 @@ def _without_agreement(device: Device, neighbor: Neighbor, far: End, near: IPv4A
         return f"{other.name} has no neighbour {near}"
     if back.is_shut:
         return f"the neighbour {near} is shut down at {other.name}"
-    return f"{other.name} says AS {back.remote} of {near}, and {device.name} has AS {device.bgp.number}"
+    return f"{other.name} says AS {back.remote} of {near}, and {device.name} has AS {device.own_bgp.number}"

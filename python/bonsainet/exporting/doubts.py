@@ -17,7 +17,7 @@ def doubts_of(network: Network, writer: Writer) -> None:
         if device.bgp and device.bgp.number == FOR_OLD_SPEAKERS:
             writer.doubt(device.bgp.line, "as-23456")
         for interface in device.up_interfaces:
-            address, subnet = interface.address.ip, interface.address.network
+            address, subnet = interface.own_address.ip, interface.own_address.network
             if any(subnet.overlaps(reserved) for reserved in RESERVED):
                 writer.doubt(interface.lines["address"], "reserved-prefix")
             if (
@@ -28,4 +28,4 @@ def doubts_of(network: Network, writer: Writer) -> None:
                 writer.doubt(interface.lines["address"], "edge-of-subnet")
     for origin in network.origins:
         if network.protocol == "bgp" and origin.prefix in wires:
-            writer.doubt(network.by_name[origin.device].bgp.networks[origin.prefix], "own-wire")
+            writer.doubt(network.by_name[origin.device].own_bgp.networks[origin.prefix], "own-wire")

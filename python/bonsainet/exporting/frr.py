@@ -135,7 +135,7 @@ def _short_name(interface: Interface, taken: set[str]) -> str:
 
 def router_id(device: Device) -> str:
     """The highest address of a device that is up, or the address 0.0.0.1."""
-    return str(max((interface.address.ip for interface in device.up_interfaces), default="0.0.0.1"))
+    return str(max((interface.own_address.ip for interface in device.up_interfaces), default="0.0.0.1"))
 
 
 class _Router:
@@ -202,10 +202,10 @@ class _Router:
             else:
                 writer.add(f" ip ospf cost {interface.cost_in_area}", interface.line, "cost")
             is_pair = self.ends.get((device.name, interface.name)) == 2
-            is_short = interface.address.network.prefixlen < 32
+            is_short = interface.own_address.network.prefixlen < 32
             if is_pair or is_stub and is_short and name.startswith("Loopback"):
                 writer.add(" ip ospf network point-to-point", interface.line, "point-to-point")
-            if self.cables and interface.address.network in self.cables:
+            if self.cables and interface.own_address.network in self.cables:
                 writer.add(" ip ospf hello-interval 1", interface.line, "lab-timers")
                 writer.add(f" ip ospf dead-interval {40 if is_pair else 8}", interface.line, "lab-timers")
         elif "cost" in interface.lines:
@@ -297,15 +297,15 @@ class _Router:
             )
 
     def _bgp(self) -> None:
-        writer, process = self.writer, self.device.bgp
+        writer, process = self.writer, self.device.own_bgp
         writer.put(f"router bgp {process.number}", process.line, "no-bearing")
         writer.add(f" bgp router-id {router_id(self.device)}", process.line, "router-id")
         writer.add(" no bgp ebgp-requires-policy", process.line, "requires-policy")
         writer.add(" bgp network import-check", process.line, "import-check")
         if self.cables is not None:
-            for line in ("timers bgp 30 90", "bgp graceful-restart-disable"):
-                writer.add(f" {line}", process.line, "lab-timers")
-        if process.preference is not None:
+            for timer in ("timers bgp 30 90", "bgp graceful-restart-disable"):
+                writer.add(f" {timer}", process.line, "lab-timers")
+        if process.preference_line:
             writer.put(f" bgp default local-preference {process.preference}", process.preference_line, "no-bearing")
         for neighbor in process.neighbors.values():
             self._session(neighbor)
@@ -350,12 +350,12 @@ class _Router:
                 writer.put(f"  neighbor {address} {words.format(self.lists[value])}", lines[key], "list-name")
 
     def _ospf(self) -> None:
-        writer, process = self.writer, self.device.ospf
+        writer, process = self.writer, self.device.own_ospf
         writer.put("router ospf", process.line, "process-number")
         writer.add(f" ospf router-id {router_id(self.device)}", process.line, "router-id")
         if self.cables is not None:
-            for line in ("timers throttle spf 50 100 500", "timers throttle lsa all 0", "timers lsa min-arrival 0"):
-                writer.add(f" {line}", process.line, "lab-timers")
+            for timer in ("timers throttle spf 50 100 500", "timers throttle lsa all 0", "timers lsa min-arrival 0"):
+                writer.add(f" {timer}", process.line, "lab-timers")
         for line in sorted(process.passive_lines, key=is_default, reverse=True):
             self._passive(line, process.is_passive_by_default)
         seen: set[str] = set()
@@ -382,7 +382,7 @@ class _Router:
             length = 32 - line.wildcard.bit_length()
             return [f" network {_dotted(line.address & ~line.wildcard)}/{length} area {line.area}"]
         addresses = [
-            interface.address.ip for interface in self.device.up_interfaces if line.covers(interface.address.ip)
+            interface.own_address.ip for interface in self.device.up_interfaces if line.covers(interface.own_address.ip)
         ]
         return [f" network {address}/32 area {line.area}" for address in addresses]
 
@@ -393,7 +393,9 @@ def _dotted(value: int) -> str:
 
 def _choices(entry: MapEntry) -> list[tuple[str | None, str | None]]:
     """Each choice of a prefix list and a community list that lets the entry hold."""
-    return list(product(entry.prefix_list_names or [None], entry.community_list_names or [None]))
+    nothing: list[str | None] = [None]
+    prefixes: list[str | None] = [*entry.prefix_list_names] or nothing
+    return list(product(prefixes, [*entry.community_list_names] or nothing))
 
 
 def _list_names(device: Device) -> dict[str, str]:

@@ -146,7 +146,7 @@ class _Router:
                 writer.put(f" ip ospf cost {interface.cost}", interface.lines["cost"], "cost")
             else:
                 writer.add(f" ip ospf cost {interface.cost_in_area}", interface.line, "cost")
-            is_wide = is_loopback and interface.address.network.prefixlen < 32
+            is_wide = is_loopback and interface.own_address.network.prefixlen < 32
             if is_wide or self.ends.get((device.name, interface.name)) == 2:
                 writer.add(" ip ospf network point-to-point", interface.line, "point-to-point")
         elif "cost" in interface.lines:
@@ -163,9 +163,9 @@ class _Router:
             self.writer.add(" no switchport", interface.line, "no-switchport")
 
     def _bgp(self) -> None:
-        writer, process = self.writer, self.device.bgp
+        writer, process = self.writer, self.device.own_bgp
         writer.put(f"router bgp {process.number}", process.line, "no-bearing")
-        if process.preference is not None:
+        if process.preference_line:
             writer.put(f" bgp default local-preference {process.preference}", process.preference_line, "no-bearing")
         for line in process.networks.values():
             writer.put(f" {' '.join(line.words)}", line, "no-bearing")
@@ -181,7 +181,7 @@ class _Router:
                 self.writer.put(f" {' '.join(lines[key].words)}", lines[key], "no-bearing")
 
     def _ospf(self) -> None:
-        writer, process = self.writer, self.device.ospf
+        writer, process = self.writer, self.device.own_ospf
         writer.put(f"router ospf {process.number}", process.line, "no-bearing")
         for line in sorted(process.passive_lines, key=is_default, reverse=True):
             *words, name = line.words

@@ -93,7 +93,8 @@ def members_note(device: Device) -> str | None:
     """The members of a group as the words of a description, or none where there are none."""
     if not device.members:
         return None
-    told, length = [], 0
+    told: list[str] = []
+    length = 0
     for member in device.members:
         length += len(member) + 1
         if length > MOST_OF_A_DESCRIPTION:
@@ -110,7 +111,7 @@ def linked_interfaces(network: Network) -> set[tuple[str, str]]:
         found |= {
             (device.name, interface.name)
             for interface in device.up_interfaces
-            if neighbor.address in interface.address.network
+            if neighbor.address in interface.own_address.network
         }
     return found
 

@@ -12,7 +12,7 @@ DEFAULT_PREFERENCE = 100
 
 def route_of(device: Device, told: Mapping) -> BgpLabel:
     """A route as FRR tells it. One without a preference has the router's default."""
-    default = device.bgp.preference if device.bgp.preference is not None else DEFAULT_PREFERENCE
+    default = device.own_bgp.preference if device.own_bgp.preference is not None else DEFAULT_PREFERENCE
     path = tuple(number for segment in told["aspath"].get("segments", []) for number in segment["list"])
     communities = tuple(sorted(map(community, told.get("community", {}).get("list", []))))
     return BgpLabel(told.get("locPrf", default), path, communities)

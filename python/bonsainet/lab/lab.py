@@ -86,7 +86,7 @@ def case_with(program: Program, text: str, file: str, prefixes: tuple[str, ...])
 
 def _case(program: Program, text: str, file: str, network: Network, of_class: Class) -> Case:
     names = [name for group in program.groups(text, of_class.number) if group.is_lone for name in group.members]
-    lone = frozenset(network.by_name[name].bgp.number for name in names)
+    lone = frozenset(network.by_name[name].own_bgp.number for name in names)
     return Case(text, file, network, of_class, lone)
 
 
