@@ -15,16 +15,22 @@ from bonsainet.ask.program import TOP, Program, Status
 VARIABLE = "BONSAI_ASK_PROGRAM"
 QUESTION = ("*", "hops", "999999999", "*")
 SECONDS = 120
-LINE = re.compile(r"class (\d+) (?:yes|none)(?: tied (\S+) (communities|path))?")
+LINE = re.compile(r"class (\d+) (yes|none)(?: tied (\S+) (communities|path))?")
 
 
 def asker() -> Program | None:
-    """The program bonsai-ask that the environment names, or that the repository has; none where there is none."""
+    """The program bonsai-ask that the environment names, or that the repository has built; none where there is none."""
     given = os.environ.get(VARIABLE)
     launcher = TOP / "bonsai-ask"
     has_launcher = launcher.exists() and (TOP / "crates" / "bonsai_ask").is_dir()
-    path = given or (str(launcher) if has_launcher else None)
+    path = given or (str(launcher) if has_launcher and is_built(str(launcher)) else None)
     return Program(path) if path else None
+
+
+def is_built(launcher: str) -> bool:
+    """Whether a launcher has a program, so that its answer does not wait for a build."""
+    told = subprocess.run([launcher, "--version"], stdin=subprocess.DEVNULL, capture_output=True, check=False)
+    return told.returncode == 0 and b"\nprogram: none yet" not in told.stdout
 
 
 def ties_told(text: str) -> dict[int, tuple[str, str] | None]:
@@ -40,4 +46,5 @@ def ties_told(text: str) -> dict[int, tuple[str, str] | None]:
     if answer.status not in (Status.DONE, 8):
         return {}
     found = [match for line in answer.text.splitlines() if (match := LINE.fullmatch(line))]
-    return {int(match[1]): (match[2], match[3]) if match[2] else None for match in found}
+    # (a class without a stable solution is asked by labels, which do not come to rest)
+    return {int(one[1]): (one[3], one[4]) if one[3] else None for one in found if one[3] or one[2] == "yes"}

@@ -6,7 +6,7 @@ from pathlib import Path
 import pytest
 
 from bonsainet.doubts.tests.test_ties import SETS, text_of, ties
-from bonsainet.doubts.untied import VARIABLE, asker, ties_told
+from bonsainet.doubts.untied import VARIABLE, asker, is_built, ties_told
 
 TIED = text_of({"m1 u": "route-map OUT out"}, {"m1": SETS})
 EVEN = text_of({}, {})
@@ -23,8 +23,16 @@ def _ask(tmp_path: Path, monkeypatch: pytest.MonkeyPatch) -> Path:
 
 
 def test_what_is_told(ask: Path) -> None:
-    ask.write_text("class 1 yes\nclass 2 yes tied r4 communities\nclass 3 none tied a path\nclass 4 no\n")
+    ask.write_text("class 1 yes\nclass 2 yes tied r4 communities\nclass 3 none tied a path\nclass 4 no\nclass 5 none\n")
     assert ties_told(EVEN) == {1: None, 2: ("r4", "communities"), 3: ("a", "path")}
+
+
+@pytest.mark.parametrize(("program", "is_there"), [("none yet; ./build makes it", False), ("proved, x", True)])
+def test_nobody_waits_for_a_build(program: str, is_there: bool, tmp_path: Path) -> None:
+    launcher = tmp_path / "launcher"
+    launcher.write_text(f"#!/bin/sh\nprintf 'bonsai-ask 1\\nprogram: {program}\\nkit: unknown\\n'\n")
+    launcher.chmod(0o755)
+    assert is_built(str(launcher)) == is_there
 
 
 def test_a_class_without_a_tie_is_not_asked(ask: Path) -> None:
