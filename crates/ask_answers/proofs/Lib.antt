@@ -1,0 +1,5 @@
+mod Lines
+mod Marks
+mod Parts
+mod Reported
+mod Spans
