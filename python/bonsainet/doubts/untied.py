@@ -6,6 +6,7 @@ whatever breaks ties, routers rest in the keys of a stable solution.
 """
 from __future__ import annotations
 
+import functools
 import os
 import re
 import subprocess
@@ -37,8 +38,13 @@ def ties_told(text: str) -> dict[int, tuple[str, str] | None]:
     """For each class the router that bonsai-ask names for a tie, with what differs, or none where no tie is met. Empty
     where it is not at hand, or does not answer in time."""
     program = asker()
-    if program is None:
-        return {}
+    return _told_by(program.path, text) if program else {}
+
+
+@functools.lru_cache(maxsize=1)
+def _told_by(path: str, text: str) -> dict[int, tuple[str, str] | None]:
+    """What a program tells of a text. A tool that looks at few classes at a time asks once."""
+    program = Program(path)
     try:
         answer = program.ask("F", *QUESTION, texts={"F": text}, seconds=SECONDS)
     except (OSError, subprocess.TimeoutExpired):
