@@ -21,7 +21,7 @@ use Rattle.solution_search.specs.Cases.{Case, IsOpen, IsNext, taken, AreUnbeaten
 use Rattle.solution_search.specs.Looks.{IsClosed, HasOffered, HasNoneOffered}
 use Rattle.solution_search.specs.Search.{IsSearched}
 use Rattle.solution_search.specs.Settled.{ComesTo, HasSettled}
-use Rattle.solution_search.specs.Steps.{IsPutOff, Looked, left_over, IsLeft, Steps}
+use Rattle.solution_search.specs.Steps.{IsPutOff, Looked, left_over, IsLeft, SearchSteps}
 use Rattle.solution_search.proofs.Burden.{settled_lighter, forked_lighter, waiting_lighter, dropped_lighter}
 use Rattle.solution_search.proofs.Compared.{holds_by}
 use Rattle.solution_search.proofs.Following.{settled, forked, settled_beaten, forked_beaten, dead, solved}
@@ -242,5 +242,5 @@ module _ (P : Problem) (good : IsProblem P) (old mid new : Board) (rules : IsBoa
           subst (λ (c : List Case). burden c < burden (cases_of old)) (sym (same_pending (waits_for wait (state_of old) ∷ pending_of old) e))
           (waiting_lighter before (pending_cases old) u (preference_of best.route) inside_waits few opened.above)
 
-  pub stepped : Steps P old new (look_of outcome)
+  pub stepped : SearchSteps P old new (look_of outcome)
   stepped = record { left = stepped_left; lighter = stepped_lighter; looked = stepped_looked }

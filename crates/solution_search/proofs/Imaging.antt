@@ -9,7 +9,7 @@ use Rattle.srp_core.proofs.Steps.{arrives}
 use Rattle.route_maps.specs.declared.plain.Imported.{Imported}
 use Rattle.route_maps.specs.declared.plain.Plain.{Plain}
 use Rattle.solution_search.specs.declared.ahead.foreseen.Foreseen.{Foreseen}
-use Rattle.solution_search.specs.Outlooks.{IsOneOf, IsImageOf, IsImage}
+use Rattle.solution_search.specs.Outlooks.{IsOneForeseen, IsImageOf, IsImage}
 
 long : (times number : ℕ) (path : List ℕ) → length (prepended times number path) ≡ times + length path
 long zero number path = omega arith
@@ -21,7 +21,7 @@ pub import_image : (out : Plain) (sends : Bool) (into : Plain) (from : Foreseen)
 unfolding step_by
 import_image out sends into from imported size is le = record { each = by }
   where
-    by : (number : ℕ) (source route : Route) → IsOneOf from source → step_by (Import out sends into) number source ≡ Some route →
+    by : (number : ℕ) (source route : Route) → IsOneForeseen from source → step_by (Import out sends into) number source ≡ Some route →
         IsImageOf (record { preference = imported.lp; comms = imported.comms; size = size }) route
     by number (Bgp lp path comms) route one e =
         let s = arrives out sends into number lp path comms route e in

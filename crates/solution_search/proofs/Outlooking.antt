@@ -22,7 +22,7 @@ use Rattle.solution_search.specs.Bests.{KnowsBest}
 use Rattle.solution_search.specs.Boards.{State, best_at, case_of, IsState}
 use Rattle.solution_search.specs.Cases.{Case, waits_above}
 use Rattle.solution_search.specs.Looks.{is_above}
-use Rattle.solution_search.specs.Outlooks.{IsOneOf, IsForeseen, Table, foreseen_at, ForeseesAll, IsImageOf, HasImage, IsImage, is_unbeaten, may_pass, IsFollowedOver, IsFollowed, IsListFollowed, IsClosedAt, GivesNothing}
+use Rattle.solution_search.specs.Outlooks.{IsOneForeseen, IsForeseen, Table, foreseen_at, ForeseesAll, IsImageOf, HasImage, IsImage, is_unbeaten_by, may_pass, IsFollowedOver, IsFollowed, IsListFollowed, IsClosedAt, GivesNothing}
 use Rattle.solution_search.proofs.Carried.{candidate_in}
 use Rattle.solution_search.proofs.Opened.{is_above_of}
 use Rattle.solution_search.proofs.Spreading.{import_of_edge}
@@ -65,9 +65,9 @@ list_is table u l items is less same = same ∙ is ∙ get_or_default table u l 
 
 -- what a settled router has is followed
 pub closed_settled : (P : Problem) (case : Case) (without : Option ℕ) (table : Table) (router : ℕ) (l : Route) → label case.labels router ≡ Some l →
-    (from : Foreseen) → IsOneOf from l → IsFollowed P case without table router from → IsClosedAt P case without table router
+    (from : Foreseen) → IsOneForeseen from l → IsFollowed P case without table router from → IsClosedAt P case without table router
 closed_settled P case without table router l is from one followed = record {
-  settled = λ r e. (let same : l ≡ r = cc in (from, subst (IsOneOf from) same one, followed));
+  settled = λ r e. (let same : l ≡ r = cc in (from, subst (IsOneForeseen from) same one, followed));
   first = λ e r init. absurd (cc);
   rest = λ e. absurd (cc);
 }
@@ -88,13 +88,13 @@ module _ (P : Problem) (good : IsProblem P) where
     pub passes_may : (u : ℕ) (route : Route) (size : ℕ) → u < count P → label state.labels u ≡ None → size ≤ size_of route →
         Passes P (case_of state) u route → may_pass state u (preference_of route) size ≡ true
     passes_may u route size inside none le passes =
-        and_true (is_above (slice_index_or state.waits u None) (preference_of route)) (is_unbeaten (best_at state.bests u) (preference_of route) size)
+        and_true (is_above (slice_index_or state.waits u None) (preference_of route)) (is_unbeaten_by (best_at state.bests u) (preference_of route) size)
         (is_above_of (waits_above (case_of state) u) (preference_of route) passes.above) (by (best_at state.bests u) refl)
       where
         k : KnowsBest P (IsCandidate P state.labels u) (best_at state.bests u)
         k = known.knows.unsettled u inside none
 
-        unbeaten : (best : Best) → IsNoWorse (key_of P route) (key_of P best.route) → is_unbeaten (Some best) (preference_of route) size ≡ true
+        unbeaten : (best : Best) → IsNoWorse (key_of P route) (key_of P best.route) → is_unbeaten_by (Some best) (preference_of route) size ≡ true
         unbeaten best (higher h) = or_left (nat_lt (preference_of best.route) (preference_of route))
             (nat_eq (preference_of best.route) (preference_of route) && nat_le size (size_of best.route))
             (lt-ltb (preference_of best.route) (preference_of route) h)
@@ -103,7 +103,7 @@ module _ (P : Problem) (good : IsProblem P) where
             (and_true (nat_eq (preference_of best.route) (preference_of route)) (nat_le size (size_of best.route))
             (eq-eqb (preference_of best.route) (preference_of route) (sym p)) (le-leb size (size_of best.route) (omega (arith, le, l))))
 
-        by : (o : Option Best) → best_at state.bests u ≡ o → is_unbeaten o (preference_of route) size ≡ true
+        by : (o : Option Best) → best_at state.bests u ≡ o → is_unbeaten_by o (preference_of route) size ≡ true
         by None e = refl
         by (Some best) e =
             unbeaten best (weakly_no_worse (key_of P route) (key_of P best.route)
@@ -123,7 +123,7 @@ module _ (P : Problem) (good : IsProblem P) where
       }
 
       module _ (image : Option Image) (is : IsImage (slice_index_or P.acts act (Cost 0)) from image) (i : Image) (some : image ≡ Some i) where
-        is_image : (n : ℕ) (source route : Route) → IsOneOf from source → step_by (slice_index_or P.acts act (Cost 0)) n source ≡ Some route →
+        is_image : (n : ℕ) (source route : Route) → IsOneForeseen from source → step_by (slice_index_or P.acts act (Cost 0)) n source ≡ Some route →
             IsImageOf i route
         is_image n source route one st = subst (λ (o : Option Image). HasImage o route) some (is.each n source route one st)
 

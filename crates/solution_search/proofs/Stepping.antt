@@ -20,7 +20,7 @@ use Rattle.solution_search.specs.Cases.{Case, IsCase, IsOpen, Admits}
 use Rattle.solution_search.specs.Looks.{open_size, IsLeast, IsClosed, is_offered, HasOffered, HasNoneOffered}
 use Rattle.solution_search.specs.Outlooks.{Table, ForeseesAll}
 use Rattle.solution_search.specs.Settled.{HasSettled}
-use Rattle.solution_search.specs.Steps.{TakesAtOnce, Forks, Steps}
+use Rattle.solution_search.specs.Steps.{TakesAtOnce, Forks, SearchSteps}
 use Rattle.solution_search.proofs.Advanced.{look_of, dead_left, solved_left, dead_lighter, solved_lighter, dead_looked, none_open, solved_looked, Leads, PutOff, nothing_more, one_more, Takeable, stepped, same_case}
 use Rattle.solution_search.proofs.Clearing.{clear_admits, clear_dead, held_before}
 use Rattle.solution_search.proofs.Opened.{Next, is_next, best_known, found_open, found_waiting}
@@ -28,7 +28,7 @@ use Rattle.solution_search.proofs.Pending.{pending_last, pending_kept}
 use Rattle.solution_search.proofs.Taking.{not_lone_sure, sure_admits}
 
 -- one step after another
-pub steps_twice : (P : Problem) (old mid new : Board) (look : Look) → Steps P old mid Settled → Steps P mid new look → Steps P old new look
+pub steps_twice : (P : Problem) (old mid new : Board) (look : Look) → SearchSteps P old mid Settled → SearchSteps P mid new look → SearchSteps P old new look
 steps_twice P old mid new look first second = record {
   left = second.left;
   lighter = (let a = first.lighter in let b = second.lighter in omega (arith, a, b));
@@ -40,17 +40,17 @@ module _ (P : Problem) (good : IsProblem P) (old : Board) (rules : IsBoard P old
   before = case_of (state_of old)
 
   -- the case admits nothing
-  dead_by : (IsCase P before → (L : List (Option Route)) → IsWeaklyStable P L → ¬ Admits P before L) → Steps P old old Dead
+  dead_by : (IsCase P before → (L : List (Option Route)) → IsWeaklyStable P L → ¬ Admits P before L) → SearchSteps P old old Dead
   dead_by never = record {
     left = dead_left P good old rules;
     lighter = dead_lighter P good old rules;
     looked = dead_looked P good old rules never;
   }
 
-  pub dead : IsClosed (state_of old) (count P) → HasOffered (state_of old) (count P) → Steps P old old Dead
+  pub dead : IsClosed (state_of old) (count P) → HasOffered (state_of old) (count P) → SearchSteps P old old Dead
   dead closed has = dead_by (none_open P good old rules closed has)
 
-  pub solved : HasNoneOffered (state_of old) (count P) → Steps P old old Solved
+  pub solved : HasNoneOffered (state_of old) (count P) → SearchSteps P old old Solved
   solved none = record {
     left = solved_left P good old rules none;
     lighter = solved_lighter P good old rules;
@@ -85,7 +85,7 @@ module _ (P : Problem) (good : IsProblem P) (old : Board) (rules : IsBoard P old
 
       pub in_turn : (new : Board) (outcome : Outcome) →
           ((best : Best) → best_at mid.bests.items router ≡ Some best → label mid.labels router ≡ None → HasSettled P mid new router best outcome) →
-          Steps P old new (look_of outcome)
+          SearchSteps P old new (look_of outcome)
       in_turn new outcome settles =
           stepped P good old mid new rules router next.best (record { is_open = next.next.is_open; inside = next.inside; is_best = next.is_known })
           forked.state forked.tie outcome step (by forked.changes)
@@ -112,7 +112,7 @@ module _ (P : Problem) (good : IsProblem P) (old : Board) (rules : IsBoard P old
     known = best_known P good (is_tied old) (state_of old) rules.state router offered
 
     -- it waits
-    pub clear_waiting : is_some (open_size (state_of old) router) ≡ false → Steps P old old Dead
+    pub clear_waiting : is_some (open_size (state_of old) router) ≡ false → SearchSteps P old old Dead
     clear_waiting f =
         let w = found_waiting P good (is_tied old) (state_of old) rules.state router inside known.0 known.1.0 known.1.1 f in
         dead_by (λ is_case L weak. clear_dead P good before is_case router w.0 nothing known.0 w.1 w.2 L weak)
@@ -136,7 +136,7 @@ module _ (P : Problem) (good : IsProblem P) (old : Board) (rules : IsBoard P old
       put_off = nothing_more (pending_kept old new step.goes)
           (λ is_case L met admits. clear_admits P good before is_case router best.route opened None nothing (inl refl) L met admits)
 
-      pub clear_taken : Steps P old new (look_of outcome)
+      pub clear_taken : SearchSteps P old new (look_of outcome)
       clear_taken = stepped P good old old new rules router best takeable refl refl outcome step put_off
 
       within : router < length old.labels

@@ -6,25 +6,25 @@ use Rattle.solution_search.specs.declared.sweeping.Look.{Look}
 use Rattle.solution_search.specs.declared.sweeping.Look.TheVariants.{Settled}
 use Rattle.solution_search.specs.Boards.{state_of, case_of, IsBoard}
 use Rattle.solution_search.specs.Outlooks.{Table, ForeseesAll}
-use Rattle.solution_search.specs.Steps.{Steps, StepsTo}
+use Rattle.solution_search.specs.Steps.{SearchSteps, StepsTo}
 use Rattle.solution_search.proofs.Stepping.{steps_twice}
 
 -- some routers are settled so far, or all is as it was
 abbrev pub SoFar : Problem → Board → Board → Option Look → Type 0
 SoFar P old new None = new ≡ old
-SoFar P old new (Some look) = (look ≡ Settled) × Steps P old new Settled
+SoFar P old new (Some look) = (look ≡ Settled) × SearchSteps P old new Settled
 
-pub so_far_more : (P : Problem) (old mid new : Board) (swept : Option Look) (look : Look) → SoFar P old mid swept → Steps P mid new look → Steps P old new look
-so_far_more P old mid new None look same step = subst (λ (b : Board). Steps P b new look) same step
+pub so_far_more : (P : Problem) (old mid new : Board) (swept : Option Look) (look : Look) → SoFar P old mid swept → SearchSteps P mid new look → SearchSteps P old new look
+so_far_more P old mid new None look same step = subst (λ (b : Board). SearchSteps P b new look) same step
 so_far_more P old mid new (Some first) look so_far step = steps_twice P old mid new look so_far.1 step
 
 pub so_far_steps : (P : Problem) (old new : Board) (swept : Option Look) → SoFar P old new swept → StepsTo P old new swept
 so_far_steps P old new None same = same
-so_far_steps P old new (Some look) so_far = subst (Steps P old new) (sym so_far.0) so_far.1
+so_far_steps P old new (Some look) so_far = subst (SearchSteps P old new) (sym so_far.0) so_far.1
 
 -- a step to a look
 pub step_to : (P : Problem) (old mid new : Board) (swept step : Option Look) (look : Look) → SoFar P old mid swept → StepsTo P mid new step → step ≡ Some look →
-    Steps P old new look
+    SearchSteps P old new look
 step_to P old mid new swept step look so_far steps is = so_far_more P old mid new swept look so_far (subst (StepsTo P mid new) is steps)
 
 -- what is kept along the routers

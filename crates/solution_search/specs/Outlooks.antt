@@ -18,7 +18,7 @@ use Rattle.solution_search.specs.Cases.{Case}
 use Rattle.solution_search.specs.Looks.{is_above}
 
 -- the route has these communities, and this size or a larger one
-pub record IsOneOf (foreseen : Foreseen) (route : Route) : Type 0 where
+pub record IsOneForeseen (foreseen : Foreseen) (route : Route) : Type 0 where
   pub comms : foreseen.comms ≡ comms_of route
   pub size : foreseen.size ≤ size_of route
 
@@ -26,7 +26,7 @@ pub record IsOneOf (foreseen : Foreseen) (route : Route) : Type 0 where
 pub record IsForeseen (list : List Foreseen) (route : Route) : Type 0 where
   pub foreseen : Foreseen
   pub inside : Contains list foreseen
-  pub is_one : IsOneOf foreseen route
+  pub is_one : IsOneForeseen foreseen route
 
 -- a list for each router
 abbrev pub Table : Type 0
@@ -54,21 +54,21 @@ HasImage (Some image) route = IsImageOf image route
 
 -- the image of what the act makes of the routes
 pub record IsImage (act : Act) (from : Foreseen) (image : Option Image) : Type 0 where
-  pub each : (number : ℕ) (source route : Route) → IsOneOf from source → step_by act number source ≡ Some route → HasImage image route
+  pub each : (number : ℕ) (source route : Route) → IsOneForeseen from source → step_by act number source ≡ Some route → HasImage image route
 
 -- no best offer, or none of a higher preference, or of the same and a smaller size
-abbrev pub is_unbeaten : Option Best → ℕ → ℕ → Bool
-is_unbeaten None preference size = true
-is_unbeaten (Some best) preference size = nat_lt (preference_of best.route) preference
+abbrev pub is_unbeaten_by : Option Best → ℕ → ℕ → Bool
+is_unbeaten_by None preference size = true
+is_unbeaten_by (Some best) preference size = nat_lt (preference_of best.route) preference
     || (nat_eq (preference_of best.route) preference && nat_le size (size_of best.route))
 
 -- whether a route of that preference and size may pass
 abbrev pub may_pass : State → ℕ → ℕ → ℕ → Bool
-may_pass state router preference size = is_above (slice_index_or state.waits router None) preference && is_unbeaten (best_at state.bests router) preference size
+may_pass state router preference size = is_above (slice_index_or state.waits router None) preference && is_unbeaten_by (best_at state.bests router) preference size
 
 -- what the act makes of the routes, and passes at the importer, is foreseen
 pub record IsFollowedOver (problem : Problem) (case : Case) (without : Option ℕ) (table : Table) (importer act : ℕ) (from : Foreseen) : Type 0 where
-  pub each : (number : ℕ) (source route : Route) → TakesPart case without importer → IsOneOf from source →
+  pub each : (number : ℕ) (source route : Route) → TakesPart case without importer → IsOneForeseen from source →
       step_by (slice_index_or problem.acts act (Cost 0)) number source ≡ Some route → Passes problem case importer route →
       IsForeseen (foreseen_at table importer) route
 
@@ -82,13 +82,13 @@ IsListFollowed problem case without table router = All (IsFollowed problem case 
 
 -- what a router has or may hold is followed
 pub record IsClosedAt (problem : Problem) (case : Case) (without : Option ℕ) (table : Table) (router : ℕ) : Type 0 where
-  pub settled : (r : Route) → label case.labels router ≡ Some r → (from : Foreseen) × IsOneOf from r × IsFollowed problem case without table router from
+  pub settled : (r : Route) → label case.labels router ≡ Some r → (from : Foreseen) × IsOneForeseen from r × IsFollowed problem case without table router from
   pub first : label case.labels router ≡ None → (r : Route) → initial problem router ≡ Some r → IsForeseen (foreseen_at table router) r
   pub rest : label case.labels router ≡ None → IsListFollowed problem case without table router
 
 -- nothing that the edge makes of the routes passes
 pub record GivesNothing (problem : Problem) (case : Case) (edge : Edge) (from : Foreseen) : Type 0 where
-  pub none : (source route : Route) → IsOneOf from source → step_over problem edge source ≡ Some route → ¬ Passes problem case edge.importer route
+  pub none : (source route : Route) → IsOneForeseen from source → step_over problem edge source ≡ Some route → ¬ Passes problem case edge.importer route
 
 -- ---- how a table is grown
 

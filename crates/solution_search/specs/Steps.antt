@@ -57,7 +57,7 @@ IsLeft problem board Dead = IsPutOff problem board
 IsLeft problem board Solved = IsPutOff problem board × IsStable problem board.labels
 
 -- what a look at the board ensures: less is left to be followed, and no solution is lost
-pub record Steps (problem : Problem) (old new : Board) (look : Look) : Type 0 where
+pub record SearchSteps (problem : Problem) (old new : Board) (look : Look) : Type 0 where
   pub left : IsLeft problem new look
   pub lighter : burden (left_over new look) < burden (cases_of old)
   pub looked : (found : List (List (Option Route))) → IsSearched problem found (cases_of old) (is_tied old) → Looked problem found new look
@@ -65,7 +65,7 @@ pub record Steps (problem : Problem) (old new : Board) (look : Look) : Type 0 wh
 -- the look came to something, or all is as it was
 abbrev pub StepsTo : Problem → Board → Board → Option Look → Type 0
 StepsTo problem old new None = new ≡ old
-StepsTo problem old new (Some look) = Steps problem old new look
+StepsTo problem old new (Some look) = SearchSteps problem old new look
 
 -- the first case that was put off is followed, or none was put off
 abbrev pub GoesBack : Board → Board → Option Ending → Type 0

@@ -11,7 +11,7 @@ ghost use Rattle.solution_search.specs.Burdens.{burden};
 ghost use Rattle.solution_search.specs.Boards.{best_at, case_of, cases_of, is_tied, state_of, Fits, IsBoard};
 ghost use Rattle.solution_search.specs.Endings.{EndsWith};
 ghost use Rattle.solution_search.specs.Search.{IsSearched};
-ghost use Rattle.solution_search.specs.Steps.{Forks, GoesBack, Steps, StepsTo, Turned};
+ghost use Rattle.solution_search.specs.Steps.{Forks, GoesBack, SearchSteps, StepsTo, Turned};
 
 use crate::ahead::{nothing_comes, outlook_of};
 use crate::board::{Board, Change, Tie, Wait};
@@ -115,7 +115,7 @@ fn sweep_before(lookups: &Lookups, board: &mut Board, router: u32) -> Result<Opt
 fn settle_in_turn(lookups: &Lookups, board: &mut Board, router: u32) -> Result<Look, NoMemory>
     requires board { IsBoard lookups.now board.old }
     requires least { IsLeast (state_of board.old) (count lookups.now) router }
-    ensures { IfOk result (Steps lookups.now board.old board.new) }
+    ensures { IfOk result (SearchSteps lookups.now board.old board.new) }
 {
     let _known = lookups.srp.count();
     put_fork(lookups, board, router)?;
@@ -128,7 +128,7 @@ fn settle_in_turn(lookups: &Lookups, board: &mut Board, router: u32) -> Result<L
 // Settles the next router, if one is open, or routers to which nothing better comes.
 fn advance(lookups: &Lookups, board: &mut Board) -> Result<Look, NoMemory>
     requires { IsBoard lookups.now board.old }
-    ensures { IfOk result (Steps lookups.now board.old board.new) }
+    ensures { IfOk result (SearchSteps lookups.now board.old board.new) }
 {
     let routers = lookups.srp.count();
     match next_router(board, routers) {

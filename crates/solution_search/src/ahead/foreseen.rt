@@ -3,7 +3,7 @@
 ghost use Rattle.std.specs.Prelude.{◌≡◌, ◌≤◌, IfOk, true};
 ghost use Rattle.srp_core.specs.declared.route.Route.{Route as ARoute};
 ghost use Rattle.srp_core.specs.Routes.{comms_of, size_of};
-ghost use Rattle.solution_search.specs.Outlooks.{IsOneOf, IsForeseen};
+ghost use Rattle.solution_search.specs.Outlooks.{IsOneForeseen, IsForeseen};
 
 use base_kit::{NoMemory, NumSet};
 use route_keys::size_of;
@@ -28,7 +28,7 @@ fn comms_of_route(alloc: Global, route: &Route) -> Result<NumSet, NoMemory>
 
 /// The communities and the size of a route.
 pub(crate) fn foreseen_of(alloc: Global, route: &Route) -> Result<Foreseen, NoMemory>
-    ensures { IfOk result (λ foreseen. IsOneOf foreseen route.now) }
+    ensures { IfOk result (λ foreseen. IsOneForeseen foreseen route.now) }
 {
     let comms = comms_of_route(alloc, route)?;
     let size = size_of(route);

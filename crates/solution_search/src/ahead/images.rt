@@ -2,7 +2,7 @@
 
 ghost use Rattle.std.specs.Prelude.{◌≡◌, ◌+◌, ◌<◌, ◌≤◌, suc, IfOk};
 ghost use Rattle.solution_search.specs.Boards.{Fits, state_of};
-ghost use Rattle.solution_search.specs.Outlooks.{IsImage, is_unbeaten, may_pass};
+ghost use Rattle.solution_search.specs.Outlooks.{IsImage, is_unbeaten_by, may_pass};
 
 use crate::ahead::foreseen::Foreseen;
 use crate::bests::Best;
@@ -51,8 +51,8 @@ pub(crate) fn image_of(alloc: Global, act: &Act, from: &Foreseen) -> Result<Opti
     }
 }
 
-fn is_unbeaten(best: &Option<Best>, preference: u32, size: u64) -> bool
-    ensures { result ≡ is_unbeaten best.now preference size }
+fn is_unbeaten_by(best: &Option<Best>, preference: u32, size: u64) -> bool
+    ensures { result ≡ is_unbeaten_by best.now preference size }
 {
     match best {
         None => true,
@@ -71,5 +71,5 @@ pub(crate) fn may_pass(board: &Board, routers: u32, router: u32, preference: u32
     ensures { result ≡ may_pass (state_of board.now) router preference size }
 {
     is_above(board.waits[router as usize], preference)
-        && is_unbeaten(&board.bests[router as usize], preference, size)
+        && is_unbeaten_by(&board.bests[router as usize], preference, size)
 }

@@ -1,7 +1,7 @@
 use Rattle.std.proofs.Common.{subst}
 use Rattle.srp_core.specs.Problem.{IsProblem}
 use Rattle.solution_search.specs.declared.settling.Outcome.{Outcome}
-use Rattle.solution_search.specs.Steps.{Steps}
+use Rattle.solution_search.specs.Steps.{SearchSteps}
 use Rattle.solution_search.proofs.Advanced.{look_of}
 use Rattle.solution_search.proofs.Stepping.{inside, unsettled, forked, in_turn}
 use Rattle.solution_search.proofs.searching.settle_in_turn.Goals as goal
@@ -27,10 +27,10 @@ pub returns-in-Fine : goal.returns-in-Fine
 returns-in-Fine c =
     let step = in_turn c.args.lookups.now (subst IsProblem c.lookups.view_is c.count-known.ensures.rules) c.args.board.now c.requires.board c.args.router
     c.requires.least c.put_fork.new.board c.in_ok-put_fork.ensures c.settle.new.board c.in_ok-settle.field-0 c.in_ok-settle.ensures in
-    subst (λ (o : Outcome). Steps c.args.lookups.now c.args.board.now c.settle.new.board (look_of o)) c.in-Fine.is step
+    subst (λ (o : Outcome). SearchSteps c.args.lookups.now c.args.board.now c.settle.new.board (look_of o)) c.in-Fine.is step
 
 pub returns-in-Upset : goal.returns-in-Upset
 returns-in-Upset c =
     let step = in_turn c.args.lookups.now (subst IsProblem c.lookups.view_is c.count-known.ensures.rules) c.args.board.now c.requires.board c.args.router
     c.requires.least c.put_fork.new.board c.in_ok-put_fork.ensures c.settle.new.board c.in_ok-settle.field-0 c.in_ok-settle.ensures in
-    subst (λ (o : Outcome). Steps c.args.lookups.now c.args.board.now c.settle.new.board (look_of o)) c.in-Upset.is step
+    subst (λ (o : Outcome). SearchSteps c.args.lookups.now c.args.board.now c.settle.new.board (look_of o)) c.in-Upset.is step

@@ -2,7 +2,7 @@ use Rattle.std.proofs.Common.{◌∙◌, None, subst, sym}
 use Rattle.srp_core.specs.Problem.{IsProblem}
 use Rattle.solution_search.specs.declared.settling.Outcome.{Outcome}
 use Rattle.solution_search.specs.Boards.{state_of, is_tied}
-use Rattle.solution_search.specs.Steps.{Steps}
+use Rattle.solution_search.specs.Steps.{SearchSteps}
 use Rattle.solution_search.proofs.Advanced.{look_of}
 use Rattle.solution_search.proofs.Opened.{best_known}
 use Rattle.solution_search.proofs.Stepping.{clear_waiting, clear_taken, foresees_on}
@@ -37,7 +37,7 @@ returns-in-Fine-clause-steps c =
     let nothing = c.in_ok-nothing_comes.ensures c.if-not-branch.false None c.requires.outlook in
     let step = clear_taken P good old c.requires.board c.args.router c.requires.router offered nothing
     (sym c.is_open.ensures ∙ c.if-not-is_open.false) c.settle.new.board c.in_ok-settle.field-0 c.in_ok-settle.ensures in
-    subst (λ (o : Outcome). Steps P old c.settle.new.board (look_of o)) c.in-Fine.is step
+    subst (λ (o : Outcome). SearchSteps P old c.settle.new.board (look_of o)) c.in-Fine.is step
 
 pub returns-in-Fine-clause-outlook : goal.returns-in-Fine-clause-outlook
 returns-in-Fine-clause-outlook c =
@@ -59,4 +59,4 @@ returns-in-Upset-clause-steps c =
     let nothing = c.in_ok-nothing_comes.ensures c.if-not-branch.false None c.requires.outlook in
     let step = clear_taken P good old c.requires.board c.args.router c.requires.router offered nothing
     (sym c.is_open.ensures ∙ c.if-not-is_open.false) c.settle.new.board c.in_ok-settle.field-0 c.in_ok-settle.ensures in
-    subst (λ (o : Outcome). Steps P old c.settle.new.board (look_of o)) c.in-Upset.is step
+    subst (λ (o : Outcome). SearchSteps P old c.settle.new.board (look_of o)) c.in-Upset.is step
