@@ -105,19 +105,20 @@ class Size:
 
 
 class Program:
-    """The program of a path, or the one that the launcher names: `bonsai` at the top of the repository, or on the path.
+    """The program of a path, or the one that the launcher of its name gives: `bonsai`, `bonsai-ask` or `bonsai-all` at the
+    top of the repository, or on the path.
 
     The launcher is asked once, and says on standard error if that program is not proved.
     """
 
-    def __init__(self, path: str | None = None) -> None:
-        here = TOP / "bonsai"
-        self.launcher = None if path else str(here) if here.is_file() else shutil.which("bonsai")
-        found = path or (None if self.launcher else os.environ.get("BONSAI_PROGRAM"))
+    def __init__(self, path: str | None = None, name: str = "bonsai") -> None:
+        here, variable = TOP / name, f"{name.upper().replace('-', '_')}_PROGRAM"
+        self.launcher = None if path else str(here) if here.is_file() else shutil.which(name)
+        found = path or (None if self.launcher else os.environ.get(variable))
         if found:
             self.path = found
         elif not self.launcher:
-            raise FileNotFoundError("no program bonsai: set BONSAI_PROGRAM, or build it with ./build")
+            raise FileNotFoundError(f"no program {name}: set {variable}, or build it with ./build")
 
     @functools.cached_property
     def path(self) -> str:

@@ -25,6 +25,16 @@ def architecture(words: list[str] | None = None) -> int:
     return start("dev/architecture", "bonsainet.repo.architecture:main", words)
 
 
+def bonsai_ask(words: list[str] | None = None) -> int:
+    """Runs the options of `bonsai-ask`, for which the launcher calls it."""
+    return start("bonsai-ask", "bonsainet.asking.tool:main", words)
+
+
+def bonsai_diff(words: list[str] | None = None) -> int:
+    """Runs `tools/bonsai-diff`."""
+    return start("bonsai-diff", "bonsainet.diffing.tool:main", words)
+
+
 def bonsai_doubts(words: list[str] | None = None) -> int:
     """Runs `tools/bonsai-doubts`."""
     return start("bonsai-doubts", "bonsainet.doubts.tool:main", words)

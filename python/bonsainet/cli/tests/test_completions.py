@@ -44,3 +44,32 @@ def test_bash_completes_classes_and_files(tmp_path: Path) -> None:
 def test_zsh_knows_the_commands() -> None:
     text = (TOP / "tools/completions/_bonsai").read_text("utf-8")
     assert re.findall(r"^        '([a-z]+):", text, re.M) == commands()
+
+
+def completed_ask(*words: str, cwd: Path = TOP) -> set[str]:
+    """What bash offers for the last of the words of bonsai-ask."""
+    given = " ".join(f"'{word}'" for word in words)
+    file = TOP / "tools/completions/bonsai-ask.bash"
+    script = f"compopt() {{ :; }}; . '{file}'; COMP_WORDS=({given}); COMP_CWORD={len(words) - 1}; _bonsai_ask; printf '%s\\n' \"${{COMPREPLY[@]}}\""
+    return set(
+        subprocess.run(["bash", "-c", script], capture_output=True, text=True, check=True, cwd=cwd).stdout.split()
+    )
+
+
+def test_bash_completes_questions(tmp_path: Path) -> None:
+    program = tmp_path / "bonsai"
+    program.write_text("#!/bin/sh\necho 'class 1 prefixes 10.0.0.0/8 10.1.0.0/16 origins a'\n", "utf-8")
+    program.chmod(0o755)
+    (tmp_path / "f.cfg").write_text("hostname core1\nhostname core2\nhostname edge\n", "utf-8")
+    asked = "./bonsai-ask", "f.cfg"
+    assert completed_ask("./bonsai-ask", "--j", cwd=tmp_path) == {"--json", "--junit", "--jobs"}
+    assert completed_ask("./bonsai-ask", "f", cwd=tmp_path) == {"f.cfg"}
+    assert completed_ask(*asked, "", cwd=tmp_path) == {"1", "10.0.0.0/8", "10.1.0.0/16", "questions"}
+    assert completed_ask("./bonsai-ask", "--json", "f.cfg", "q", cwd=tmp_path) == {"questions"}
+    assert completed_ask(*asked, "1", "c", cwd=tmp_path) == {"count", "carries"}
+    assert completed_ask(*asked, "1", "failing", "", cwd=tmp_path) == {"links", "routers"}
+    assert completed_ask(*asked, "1", "failing", "links", "r", cwd=tmp_path) == {"route"}
+    assert completed_ask(*asked, "1", "without", "core1,c", cwd=tmp_path) == {"core1,core1", "core1,core2"}
+    assert completed_ask(*asked, "1", "without", "core1", "r", cwd=tmp_path) == {"route"}
+    assert completed_ask(*asked, "1", "through", "core1", "e", cwd=tmp_path) == {"edge"}
+    assert completed_ask(*asked, "questions", "f", cwd=tmp_path) == {"f.cfg"}
