@@ -1,7 +1,8 @@
 """`examples/check`: the program answers the examples as kept, and the pages' command lines as shown.
 
 A line of scripts/commands is the name of an answer, and then the words; files are those of inputs/. The answer NAME is
-answers/NAME.out, with NAME.err and NAME.status where these are not empty and 0. Checks of several commands:
+answers/NAME.out, with NAME.err and NAME.status where these are not empty and 0. scripts/questions has such lines for
+bonsai-ask, scripts/frames for bonsai-all. Checks of several commands:
 
   twice      a network that `compress` wrote has one class, and compressed again it is the same but for the names of members
   canonical  `canon` of what `compress` wrote is `canon` of the text but for the names of members, and so is `canon` of what `canon` wrote
@@ -39,6 +40,8 @@ from bonsainet.ask.where import without_notices
 EXAMPLES = TOP / "examples"
 INPUTS, ANSWERS, SCRIPTS = EXAMPLES / "inputs", EXAMPLES / "answers", EXAMPLES / "scripts"
 DOUBLED_NAMES = SCRIPTS / "doubled-names"
+# The program that answers the lines of a script.
+PROGRAMS = {"commands": "bonsai", "questions": "bonsai-ask", "frames": "bonsai-all"}
 AT_ONCE = 3
 MOST_SHOWN = 2000
 
@@ -72,15 +75,16 @@ def lines_of(script: str) -> list[list[str]]:
 
 
 class Asked:
-    """The program that is asked."""
+    """The programs, each by its name, and what they answer. Checks of several commands are of `bonsai`."""
 
-    def __init__(self, program: str) -> None:
-        self.program = program
+    def __init__(self, programs: dict[str, str]) -> None:
+        self.programs = programs
+        self.program = programs["bonsai"]
 
-    def answer(self, *words: str) -> Answer:
-        """Asks the program from the folder of inputs."""
+    def answer(self, *words: str, of: str = "bonsai") -> Answer:
+        """Asks a program from the folder of inputs."""
         ran = subprocess.run(
-            [self.program, *words], cwd=INPUTS, stdin=subprocess.DEVNULL, capture_output=True, check=False
+            [self.programs[of], *words], cwd=INPUTS, stdin=subprocess.DEVNULL, capture_output=True, check=False
         )
         return Answer(ran.returncode, ran.stdout, without_notices(ran.stderr))
 
@@ -90,9 +94,9 @@ class Asked:
         Path(place).write_bytes(self.answer(*words).out)
         return place
 
-    def command(self, name: str, *words: str) -> list[str]:
+    def command(self, name: str, *words: str, of: str) -> list[str]:
         """An answer is as kept."""
-        return differences(kept(name), self.answer(*words))
+        return differences(kept(name), self.answer(*words, of=of))
 
     def twice(self, text: str, number: str) -> list[str]:
         """Compressing again changes nothing."""
@@ -273,8 +277,10 @@ def faults_of_crates() -> list[str]:
 
 def checks(asked: Asked) -> Iterator[Check]:
     """All checks, in order."""
-    for name, *words in lines_of("commands"):
-        yield Check(name, " ".join(words), lambda name=name, words=words: asked.command(name, *words))
+    for script, of in PROGRAMS.items():
+        for name, *words in lines_of(script):
+            told = " ".join(words) if of == "bonsai" else " ".join([of, *words])
+            yield Check(name, told, lambda name=name, words=words, of=of: asked.command(name, *words, of=of))
     kinds = (
         ("twice", "twice", "compress twice"),
         ("canonical", "canonical", "canon of compress and of canon"),
@@ -314,7 +320,11 @@ def run(chosen: list[Check]) -> int:
 def main(words: list[str] | None = None) -> int:
     """The command line of examples/check."""
     given = command_line.parser("check", __doc__ or "")
-    given.add_argument("--program", metavar="PATH", help="the program to ask (default: $BONSAI_PROGRAM, or ./bonsai)")
+    given.add_argument(
+        "--program",
+        metavar="PATH",
+        help="the program to ask in place of bonsai (default: $BONSAI_PROGRAM, or ./bonsai)",
+    )
     given.add_argument(
         "--keep", action="store_true", help="keep the answers of the commands NAME.. instead of comparing them"
     )
@@ -327,20 +337,27 @@ def main(words: list[str] | None = None) -> int:
 
 def carry_out(given: argparse.Namespace) -> int:
     """Checks, or keeps answers."""
-    program = shutil.which(given.program or os.environ.get("BONSAI_PROGRAM") or TOP / "bonsai")
-    if not program:
-        raise Refused(f"{given.program or os.environ.get('BONSAI_PROGRAM')}: there is no such program")
-    asked = Asked(os.path.abspath(program))
+    asked = Asked({name: program_of(name, given.program if name == "bonsai" else None) for name in PROGRAMS.values()})
     every = list(checks(asked))
     unknown = sorted(set(given.names) - {check.name for check in every})
     if unknown:
         raise Refused(f"{unknown[0]}: no answer, kind of check or page has this name")
     if not given.keep:
         return run([check for check in every if not given.names or check.name in given.names])
-    commands = {name: words for name, *words in lines_of("commands")}
+    commands = {name: (of, words) for script, of in PROGRAMS.items() for name, *words in lines_of(script)}
     if not given.names or set(given.names) - set(commands):
-        raise Refused("--keep takes names of scripts/commands")
+        raise Refused(f"--keep takes names of {', '.join(f'scripts/{script}' for script in PROGRAMS)}")
     for name in given.names:
-        keep(name, asked.answer(*commands[name]))
+        of, words = commands[name]
+        keep(name, asked.answer(*words, of=of))
         print(f"kept: {name}")
     return 0
+
+
+def program_of(name: str, given: str | None) -> str:
+    """The file to run for a program: the one that is given, or that the environment names, or the launcher of the repository."""
+    wanted = given or os.environ.get(f"{name.upper().replace('-', '_')}_PROGRAM") or TOP / name
+    found = shutil.which(wanted)
+    if not found:
+        raise Refused(f"{wanted}: there is no such program")
+    return os.path.abspath(found)
