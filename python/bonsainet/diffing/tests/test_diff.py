@@ -1,0 +1,180 @@
+"""What changes in routing where a text is edited: known edits, each with its right answer."""
+from __future__ import annotations
+
+import json
+import re
+from pathlib import Path
+
+import jsonschema
+import pytest
+
+import bonsainet
+from bonsainet.ask.program import TOP
+from bonsainet.diffing.documents import document
+from bonsainet.diffing.words import lines
+from bonsainet.library.calls import ASK, program
+from bonsainet.tests.asking import tool
+
+INPUTS = TOP / "examples" / "inputs"
+SCHEMA = json.loads((TOP / "docs" / "data" / "bonsai-diff.schema.json").read_text())
+
+
+def text_of(name: str) -> str:
+    return (INPUTS / name).read_text()
+
+
+def edited(text: str, old: str, new: str, router: str = "") -> str:
+    """The text with one line of a router, or the first such line, in other words."""
+    at = text.index(f"hostname {router}\n") if router else 0
+    found = text.index(old, at)
+    return text[:found] + new + text[found + len(old) :]
+
+
+def said(old: str, new: str) -> list[str]:
+    """The lines of the difference. Its document fits the schema, and says whether anything changes."""
+    found = bonsainet.diff(bonsainet.Network.from_text(old), bonsainet.Network.from_text(new))
+    made = document(found, program(ASK).identity)
+    jsonschema.validate(made, SCHEMA)
+    assert bool(made["changed"]) == bool(found)
+    return list(lines(found))
+
+
+CAMPUS, DISAGREE = text_of("campus.cfg"), text_of("asking/disagree.cfg")
+NOTHING = ["0 prefixes change, 19 stay as they are"]
+
+
+def test_nothing_changes() -> None:
+    assert said(CAMPUS, CAMPUS) == NOTHING
+
+
+@pytest.mark.parametrize(
+    "old, new",
+    [
+        (" ip ospf cost 5\n", " ip ospf cost 5\n description a word\n"),
+        ("hostname core1\n", "hostname core1\nip access-list extended UNUSED\n permit ip any any\n"),
+        ("hostname core1\n", "hostname core1\nip prefix-list UNUSED seq 5 permit 0.0.0.0/0\n"),
+    ],
+)
+def test_an_edit_without_effect(old: str, new: str) -> None:
+    assert said(CAMPUS, edited(CAMPUS, old, new)) == NOTHING
+
+
+def test_a_cost() -> None:
+    found = said(CAMPUS, CAMPUS.replace(" ip ospf cost 5\n", " ip ospf cost 7\n"))
+    assert "  changed access2: cost 7 to dist1 (GigabitEthernet0/1) -> cost 9 to dist1 (GigabitEthernet0/1)" in found
+    assert found[-1] == "2 prefixes change, 17 stay as they are"
+
+
+def test_there_and_back() -> None:
+    other = CAMPUS.replace(" ip ospf cost 5\n", " ip ospf cost 7\n")
+    there, back = said(CAMPUS, other), said(other, CAMPUS)
+    turned = [re.sub(r"^(  changed [^:]*: )(.*) -> (.*)$", r"\1\3 -> \2", line) for line in there]
+    assert sorted(turned) == sorted(back)
+
+
+def test_a_renamed_router() -> None:
+    found = said(CAMPUS, CAMPUS.replace("hostname access2\n", "hostname edge2\n"))
+    assert found[:2] == ["routers that are gone: access2", "routers that are new: edge2"]
+
+
+def test_a_prefix_that_moves() -> None:
+    moved = DISAGREE.replace("10.0.0.1 255.255.255.0", "10.9.0.1 255.255.255.0").replace(
+        "network 10.0.0.0 mask", "network 10.9.0.0 mask"
+    )
+    found = said(DISAGREE, moved)
+    assert found[:2] == ["prefixes that are gone: 10.0.0.0/24", "prefixes that are new: 10.9.0.0/24"]
+    assert "  lost d: preference 100 length 0 here" in found and "  gained d: preference 100 length 0 here" in found
+
+
+def test_a_session_that_is_shut() -> None:
+    found = said(
+        DISAGREE,
+        edited(DISAGREE, " neighbor 172.16.0.5 send", " neighbor 172.16.0.5 shutdown\n neighbor 172.16.0.5 send"),
+    )
+    assert found == [
+        "10.0.0.0/24",
+        "  stable solutions: 2 before, 1 after",
+        "  changed x: preference 100 length 1 to d (GigabitEthernet0/0) or preference 200 length 2 to y (GigabitEthernet0/1)"
+        " -> preference 100 length 1 to d (GigabitEthernet0/0)",
+        "  changed y: preference 100 length 1 to d (GigabitEthernet0/0) or preference 200 length 2 to x (GigabitEthernet0/1)"
+        " -> preference 100 length 1 to d (GigabitEthernet0/0)",
+        "1 prefix changes, 0 stay as they are",
+    ]
+
+
+def test_a_second_solution_is_made() -> None:
+    single = DISAGREE.replace(" set local-preference 200\n", " set local-preference 90\n")
+    assert "  stable solutions: 1 before, 2 after" in said(single, DISAGREE)
+
+
+def test_a_preference_without_effect() -> None:
+    assert said(DISAGREE, DISAGREE.replace("route-map P permit 10", "route-map P permit 20")) == [
+        "0 prefixes change, 1 stay as they are"
+    ]
+
+
+def test_a_community_that_is_set() -> None:
+    found = said(
+        DISAGREE, DISAGREE.replace(" set local-preference 200\n", " set local-preference 200\n set community 65000:1\n")
+    )
+    assert any("communities 65000:1" in line for line in found)
+
+
+def test_a_tie() -> None:
+    tied = text_of("asking/tags-tied.cfg")
+    found = said(tied, edited(tied, "hostname spine2\n", "hostname spine9\n"))
+    assert any(line.startswith("  tied before: leaf has tied routes") for line in found)
+
+
+def test_more_solutions_than_are_compared() -> None:
+    pair = DISAGREE.split("hostname x\n")
+    pieces = []
+    for number in range(7):
+        piece = "hostname x\n" + pair[1]
+        base = 4 * number
+        for name in "xy":
+            piece = piece.replace(f"hostname {name}\n", f"hostname {name}{number}\n")
+        piece = piece.replace("65002", str(65100 + base)).replace("65003", str(65101 + base))
+        pieces.append(piece.replace("172.16.0.", f"172.16.{number}."))
+    links, sessions = [], []
+    for number in range(7):
+        for far, local, which in ((1, 0, 0), (3, 2, 1)):
+            links.append(
+                f"interface GigabitEthernet{number}/{which}\n ip address 172.16.{number}.{local} 255.255.255.254\n"
+            )
+            sessions.append(f" neighbor 172.16.{number}.{far} remote-as {65100 + 4 * number + which}\n")
+    origin = (
+        "hostname d\ninterface Vlan1\n ip address 10.0.0.1 255.255.255.0\n"
+        + "".join(links)
+        + "router bgp 65001\n network 10.0.0.0 mask 255.255.255.0\n"
+        + "".join(sessions)
+        + "end\n"
+    )
+    many = origin + "".join(pieces)
+    found = said(DISAGREE, many)
+    assert "  stable solutions: 2 before, 128 after" in found
+    assert "  more than 64 stable solutions: the routes are not compared" in found
+    assert found[-1] == "1 prefix changes, 0 stay as they are"
+
+
+def test_the_tool(tmp_path: Path) -> None:
+    (tmp_path / "new.cfg").write_text(CAMPUS.replace(" ip ospf cost 5\n", " ip ospf cost 7\n"))
+    ran = tool("bonsai-diff", INPUTS / "campus.cfg", tmp_path / "new.cfg")
+    assert (ran.returncode, ran.stderr) == (8, b"")
+    assert ran.stdout.endswith(b"2 prefixes change, 17 stay as they are\n")
+    same = tool("bonsai-diff", INPUTS / "campus.cfg", "-", raw=CAMPUS.encode())
+    assert (same.returncode, same.stdout) == (0, f"{NOTHING[0]}\n".encode())
+    written = tool("bonsai-diff", "--json", INPUTS / "campus.cfg", tmp_path / "new.cfg")
+    jsonschema.validate(json.loads(written.stdout), SCHEMA)
+
+
+def test_folders_and_refusals(tmp_path: Path) -> None:
+    folder = TOP / "examples" / "folders" / "campus"
+    ran = tool("bonsai-diff", "--decisions", folder / "decisions", folder / "configs", folder / "configs")
+    assert ran.returncode == 0 and ran.stdout.startswith(b"0 prefixes change, ")
+    assert ran.stderr.count(b"lines are written otherwise or left out") == 2
+    refused = tool("bonsai-diff", folder / "configs", INPUTS / "campus.cfg")
+    assert refused.returncode == 1 and b"lines are refused" in refused.stderr
+    (tmp_path / "bad.cfg").write_text("hostname a\nnonsense\n")
+    bad = tool("bonsai-diff", INPUTS / "campus.cfg", tmp_path / "bad.cfg")
+    assert bad.returncode == 1 and b"line 2: " in bad.stderr
