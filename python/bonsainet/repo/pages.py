@@ -32,7 +32,19 @@ SET_UP = (
     "cp -r /usr/share/",
     "examples/check",
 )
-LENT = ("bonsai", "bonsai-all", "examples", "tools", "dev", "docs", "python", "README.md", "crates", "crates.txt")
+LENT = (
+    "bonsai",
+    "bonsai-ask",
+    "bonsai-all",
+    "examples",
+    "tools",
+    "dev",
+    "docs",
+    "python",
+    "README.md",
+    "crates",
+    "crates.txt",
+)
 ANY_LINES = "..."
 SECONDS = 60
 
