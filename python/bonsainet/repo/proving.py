@@ -33,7 +33,7 @@ def closure(uses: dict[str, list[str]], name: str) -> list[str]:
 
 @dataclasses.dataclass
 class Told:
-    """What a run has told so far: crates that are proved, and what failed, each in its order; and of each crate how
+    """What a run has reported so far: crates that are proved, and what failed, each in its order; and of each crate how
     many edits were tried."""
 
     proved: list[str] = dataclasses.field(default_factory=list)
@@ -42,7 +42,7 @@ class Told:
 
     def read(self, line: str) -> None:
         """Takes one line of the run's output into account."""
-        if found := re.match(r"rt: (\w+) proved$", line):
+        if found := re.match(r"rt: (\w+) (?:proved$|is kept: an earlier run on this machine proved )", line):
             self.proved.append(found[1])
         elif found := re.match(r"rt: (\w+)(: its tests)?(?: are)? (?:NOT PROVED|FAILED)", line):
             self.failed.append(found[1] + (found[2] or ""))

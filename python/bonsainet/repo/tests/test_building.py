@@ -12,6 +12,7 @@ from pathlib import Path
 
 import pytest
 
+from bonsainet.cli.command_line import Refused
 from bonsainet.repo import building, packing
 from bonsainet.repo.proving import Told, at_work, closure, lines_of_failure, part_of, uses_of
 from bonsainet.tests.asking import wait_for
@@ -36,6 +37,9 @@ rt: FAILED: middle low/second.edit low (tests)
 2 passed, 3 failed
 """
 
+NOTHING: dict[str, str] = {}
+"""An environment without variables."""
+
 
 def test_crates_and_what_lies_below() -> None:
     uses = uses_of("# crates\ntop: middle low std\nmiddle: low indexmap  # more\nlow:\nother staticlib: low\n")
@@ -48,6 +52,12 @@ def test_what_a_run_tells() -> None:
     for line in OUTPUT.splitlines():
         told.read(line)
     assert told == Told(["low", "high"], ["middle", "high: its tests", "low/second.edit", "low: its tests"], {"low": 2})
+
+
+def test_a_crate_that_is_kept_counts_as_proved() -> None:
+    told = Told()
+    told.read("rt: low is kept: an earlier run on this machine proved the same files over the same libraries\n")
+    assert told == Told(["low"], [], {})
 
 
 def test_lines_of_a_failure() -> None:
@@ -102,20 +112,41 @@ def parts_of(room: Path, ends: int = 0, *names: str) -> packing.Parts:
 def test_each_installed_part(tmp_path: Path) -> None:
     made = packing.install(parts_of(tmp_path, 6), tmp_path / "prefix")
     assert {tmp_path / "prefix/bin/bonsai", tmp_path / "prefix/lib/bonsai/bonsai"} <= set(made)
-    ran = subprocess.run([tmp_path / "prefix/bin/bonsai", "check", "F"], capture_output=True, check=False, env={})
+    ran = subprocess.run([tmp_path / "prefix/bin/bonsai", "check", "F"], capture_output=True, check=False, env=NOTHING)
     assert (ran.returncode, ran.stdout, ran.stderr) == (6, b"words: check F\n", b"")
-    told = subprocess.run([tmp_path / "prefix/bin/bonsai", "--version"], capture_output=True, check=False, env={})
+    told = subprocess.run([tmp_path / "prefix/bin/bonsai", "--version"], capture_output=True, check=False, env=NOTHING)
     assert told.stdout.decode() == f"bonsai 0+1.abc\nprogram: proved, {tmp_path}/prefix/lib/bonsai/bonsai\nkit: kit-1\n"
-    where = subprocess.run([tmp_path / "prefix/bin/bonsai", "--where"], capture_output=True, check=False, env={})
+    where = subprocess.run([tmp_path / "prefix/bin/bonsai", "--where"], capture_output=True, check=False, env=NOTHING)
     assert where.stdout.decode() == f"{tmp_path}/prefix/lib/bonsai/bonsai\n"
 
 
 def test_each_installed_program(tmp_path: Path) -> None:
     packing.install(parts_of(tmp_path, 0, "bonsai", "bonsai_ask"), tmp_path / "prefix")
     ran = subprocess.run(
-        [tmp_path / "prefix/bin/bonsai-ask", "F", "1", "count"], capture_output=True, check=False, env={}
+        [tmp_path / "prefix/bin/bonsai-ask", "F", "1", "count"], capture_output=True, check=False, env=NOTHING
     )
     assert (ran.returncode, ran.stdout) == (0, b"words: F 1 count\n")
+
+
+def test_a_plain_python_finds_the_package(tmp_path: Path) -> None:
+    """The link leads to what is installed, also behind a second time. What is no link of ours stays."""
+    for _ in range(2):
+        packing.install(parts_of(tmp_path), tmp_path / "prefix")
+    words = ["-c", "import bonsainet, bonsainet.ask.program as it; print(bonsainet.Network.__name__, it.TOP)"]
+    path = tmp_path / "prefix/lib/python3/dist-packages"
+    ran = subprocess.run(
+        ["/usr/bin/python3", *words],
+        capture_output=True,
+        text=True,
+        check=False,
+        cwd=tmp_path,
+        env={"PYTHONPATH": str(path)},
+    )
+    assert ran.stdout == f"Network {tmp_path}/prefix/share/bonsai\n", ran.stderr
+    (path / "bonsainet").unlink()
+    (path / "bonsainet").mkdir()
+    with pytest.raises(Refused, match="is no link"):
+        packing.install(parts_of(tmp_path), tmp_path / "prefix")
 
 
 def test_what_is_installed_is_for_all_users(tmp_path: Path) -> None:
@@ -131,10 +162,12 @@ def test_what_is_installed_is_for_all_users(tmp_path: Path) -> None:
 def test_the_package(tmp_path: Path) -> None:
     package = packing.make_deb(parts_of(tmp_path), tmp_path)
     subprocess.run(["dpkg-deb", "--extract", package, tmp_path / "root"], check=True)
-    ran = subprocess.run([tmp_path / "root/usr/bin/bonsai", "classes", "F"], capture_output=True, check=False, env={})
+    ran = subprocess.run(
+        [tmp_path / "root/usr/bin/bonsai", "classes", "F"], capture_output=True, check=False, env=NOTHING
+    )
     assert (ran.returncode, ran.stdout) == (0, b"words: classes F\n")
     told = subprocess.run(
-        [tmp_path / "root/usr/bin/bonsai", "--version"], capture_output=True, text=True, check=False, env={}
+        [tmp_path / "root/usr/bin/bonsai", "--version"], capture_output=True, text=True, check=False, env=NOTHING
     )
     assert told.stdout.splitlines()[0] == "bonsai 0+1.abc" and told.stdout.splitlines()[2] == "kit: kit-1"
     wanted = ["Package", "Version", "Depends"]
@@ -337,8 +370,8 @@ def test_two_builds_at_once_prove_once(clone: Path) -> None:
     room = clone.parent
     env = {"PATH": f"{room}/kit/bin:/usr/bin:/bin", "CALLS": str(room / "calls")}
     both = [
-        subprocess.Popen([clone / "build", *words], stdout=subprocess.DEVNULL, stderr=subprocess.DEVNULL, env=env)
-        for words in ([], [])
+        subprocess.Popen([clone / "build"], stdout=subprocess.DEVNULL, stderr=subprocess.DEVNULL, env=env)
+        for _ in range(2)
     ]
     assert [one.wait() for one in both] == [0, 0]
     assert calls(clone) == BUILT
