@@ -1,21 +1,31 @@
 -- What a settled router gives the others, edge by edge, and what the board knows then.
-use Rattle.std.proofs.Common.{◌≡◌, ℕ, ◌<◌, false, List, [], ◌∷◌, ◌++◌, length, Option, Some, None, refl, sym, ◌∙◌, subst, arith}
-use Rattle.std.specs.Prelude.{Contains, filter_map, is_some}
+use Rattle.std.proofs.Common.{◌≡◌, ℕ, ◌<◌, false, List, [], ◌∷◌, ◌++◌, length, Option, Some, None, refl, sym, ap, ◌∙◌, subst, arith}
+use Rattle.std.specs.Prelude.{Contains, filter_map, is_some, slice_index_or}
+use Rattle.std.specs.Ordering.{nat_cmp}
+use Rattle.std.specs.Cmp.Lexicographic.{slice_cmp}
+use Rattle.std.specs.declared.cmp.Ordering.{Ordering}
 use Rattle.base_kit.specs.declared.act_graph.Edge.{Edge}
 use Rattle.base_kit.proofs.Elements.{contains_in, in_contains, filter_map_in}
 use Rattle.refine_partition.specs.declared.imports.Import.{Import}
 use Rattle.refine_partition.specs.Index.{import_from}
 use Rattle.srp_core.specs.declared.route.Route.{Route}
+use Rattle.srp_core.specs.declared.route.Act.TheVariants.{Cost}
 use Rattle.srp_core.specs.Candidates.{over}
-use Rattle.srp_core.specs.Problem.{Problem, count, IsProblem}
+use Rattle.srp_core.specs.Problem.{Problem, count, number, is_lone_number, step_over, IsProblem}
+use Rattle.srp_core.specs.Routes.{path_of, comms_of, chosen}
 use Rattle.srp_core.specs.Stability.{label}
+use Rattle.srp_core.proofs.CandidateLists.{over_candidate}
 use Rattle.solution_search.specs.declared.bests.Best.{Best}
+use Rattle.solution_search.specs.declared.bests.Rank.TheVariants as Rank
 use Rattle.solution_search.specs.declared.board.Board.{Board}
 use Rattle.solution_search.specs.declared.settling.Outcome.{Outcome}
 use Rattle.solution_search.specs.declared.settling.Outcome.TheVariants.{Fine, Upset}
+use Rattle.solution_search.specs.Bests.{rank_by, rank_of}
 use Rattle.solution_search.specs.Boards.{state_of, best_at, is_tied, IsTieWithin, Fits, GoesOn, better_than, rank_at, Adds, Takes, edge_of, IsPart}
 use Rattle.solution_search.specs.Offers.{IsOfferOf, OffersRoute}
 use Rattle.solution_search.specs.Settled.{PartComesTo, HasGiven, HasSpread, HasSettled}
+use Rattle.solution_search.specs.Weighing.{AreWorse}
+use Rattle.solution_search.proofs.Adding.{adds_worse}
 use Rattle.solution_search.proofs.Known.{added_tied}
 use Rattle.solution_search.proofs.Pending.{goes_same, goes_trans, put_goes, put_fits, rank_within, taken_goes}
 use Rattle.solution_search.proofs.Spreading.{import_is, part_nothing, part_offer, part_upset, part_done, taken_part, taken_tied}
@@ -97,6 +107,25 @@ module _ (P : Problem) (good : IsProblem P) where
           part_offer P good before router done i old new offer outcome route gives is_offer inside adds part e
       by Upset e before done edge at is part =
           part_upset P good before router done i old new offer outcome route gives is_offer inside adds part edge at is e
+
+  -- each route that the edge may give is worse than the best offer of the importer, and the board is as it was
+  pub given_worse : (board : Board) (router : ℕ) (i : Import) (from : Route) (best : Best) → Fits (count P) board → i.importer < count P →
+      label board.labels router ≡ Some from → best_at board.bests.items i.importer ≡ Some best → AreWorse (slice_index_or P.acts i.act (Cost 0)) from best.route →
+      HasGiven P board board router i Fine
+  given_worse board router i from best fits inside labelled known worse = by (over P board.labels (edge_of router i)) refl
+    where
+      by : (o : Option Route) → over P board.labels (edge_of router i) ≡ o → HasGiven P board board router i Fine
+      by None e = given_nothing board router i fits e
+      by (Some route) e =
+          let offer : Best = record { route = route; lone = chosen (is_lone_number P) (path_of route); tied = None } in
+          let gives = over_candidate P board.labels (edge_of router i) route e in
+          let same : gives.from ≡ from = (let a = gives.labelled in cc) in
+          let stepped = subst (λ (r : Route). step_over P (edge_of router i) r ≡ Some route) same gives.stepped in
+          let weak = worse.worse (number P router) route offer.lone best.lone stepped in
+          let rank : rank_of offer best ≡ Rank.Worse =
+          ap (λ (o : Ordering). rank_by o (slice_cmp nat_cmp (comms_of route) (comms_of best.route)) (slice_cmp nat_cmp offer.lone best.lone)) weak in
+          given_offer board board router i offer Fine route fits inside e (record { same = refl; fresh = record { lone = refl; untied = refl } })
+          (adds_worse board i.importer offer best known rank)
 
   pub spread_none : (board : Board) (router : ℕ) → Fits (count P) board → Spread P board board router []
   spread_none board router fits = record {

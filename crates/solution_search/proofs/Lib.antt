@@ -24,3 +24,6 @@ mod Outlooking
 mod Imaging
 mod Owned
 mod SweptSoFar
+mod Weighed
+mod Queued
+mod NoLone

@@ -112,19 +112,19 @@ module _ (P : Problem) (good : IsProblem P) (tied : Bool) (state : State) (known
   pub is_next : (u : ℕ) → IsLeast state (count P) u → Next P state u
   unfolding open_size
   is_next u least =
-      let parts = parts_by (label state.labels u) (waits_above (case_of state) u) (best_at state.bests u) least.size least.of.sized in
-      let k = known.knows.unsettled u least.of.inside parts.unsettled in
+      let parts = parts_by (label state.labels u) (waits_above (case_of state) u) (best_at state.bests u) least.size least.turn.sized in
+      let k = known.knows.unsettled u least.turn.inside parts.unsettled in
       let q = k.some parts.best parts.is_known in
       record {
         best = parts.best;
         is_known = parts.is_known;
         unsettled = parts.unsettled;
-        inside = least.of.inside;
+        inside = least.turn.inside;
         next = record {
           is_open = record { best = best_offer u parts.best parts.unsettled q; above = parts.above };
           smallest = λ other c opened.
               (let found = open_found other c opened in
-              let smaller = least.of.least other (size_of c) (candidate_in P good state.labels other c opened.best.offer.candidate) found in
+              let smaller = least.least other (size_of c) (candidate_in P good state.labels other c opened.best.offer.candidate) found in
               let sized = parts.sized in
               omega (arith, smaller, sized));
         };

@@ -5,7 +5,7 @@ use Rattle.std.specs.Ordering.{nat_cmp, ordering_then, MatchOrdering}
 use Rattle.std.specs.Cmp.Lexicographic.{slice_cmp}
 use Rattle.std.specs.declared.cmp.Ordering.{Ordering}
 use Rattle.std.specs.declared.cmp.Ordering.TheVariants.{Less, Equal, Greater}
-use Rattle.std.proofs.lemmas.Bool.{cases_lt, lt-ltb}
+use Rattle.std.proofs.lemmas.Bool.{cases_lt, lt-ltb, le-ltb, ne_eqb}
 use Rattle.std.proofs.lemmas.Cmp.{nat_cmp_total, tied_itself, ranked}
 use Rattle.srp_core.specs.Routes.{Key, compare_keys}
 use Rattle.srp_core.specs.Weak.{compare_weak}
@@ -19,7 +19,11 @@ pub data IsNoWorse (a b : Key) : Type 0 where
 nat_less : (x y : ℕ) → x < y → nat_cmp x y ≡ Less
 nat_less x y h = ap (λ b. cond b Less (cond (nat_eq x y) Equal Greater)) (lt-ltb x y h)
 
-nat_equal : (x y : ℕ) → x ≡ y → nat_cmp x y ≡ Equal
+pub nat_greater : (x y : ℕ) → y < x → nat_cmp x y ≡ Greater
+nat_greater x y h = ap (λ b. cond b Less (cond (nat_eq x y) Equal Greater)) (le-ltb x y (omega (arith, h)))
+    ∙ ap (λ b. cond b Equal Greater) (ne_eqb x y (λ e. omega (arith, h, e)))
+
+pub nat_equal : (x y : ℕ) → x ≡ y → nat_cmp x y ≡ Equal
 nat_equal x y e = subst (λ n. nat_cmp x n ≡ Equal) e (tied_itself nat_cmp_total x)
 
 equal_nat : (x y : ℕ) → nat_cmp x y ≡ Equal → x ≡ y

@@ -11,3 +11,5 @@ pub mod Outlooks
 pub mod Search
 pub mod Settled
 pub mod Steps
+pub mod Weighing
+pub mod Queues

@@ -4,7 +4,6 @@ use Rattle.srp_core.specs.declared.route.Route.{Route}
 use Rattle.srp_core.specs.Routes.{preference_of, size_of}
 use Rattle.srp_core.specs.Stability.{label}
 use Rattle.solution_search.specs.declared.bests.Best.{Best}
-use Rattle.solution_search.specs.declared.looking.Open.{Open}
 use Rattle.solution_search.specs.Boards.{State, best_at}
 
 abbrev pub is_above : Option ℕ → ℕ → Bool
@@ -24,19 +23,16 @@ open_size state router = open_size_by (label state.labels router) (slice_index_o
 pub record IsClosed (state : State) (upto : ℕ) : Type 0 where
   pub closed : (u : ℕ) → u < upto → open_size state u ≡ None
 
--- of the first so many routers this one is open, and none is open with a smaller offer
-pub record IsLeastOf (state : State) (upto : ℕ) (found : Open) : Type 0 where
-  pub inside : found.router < upto
-  pub sized : open_size state found.router ≡ Some found.size
-  pub least : (u size : ℕ) → u < upto → open_size state u ≡ Some size → found.size ≤ size
+-- one of so many routers is open, and its best offer has that size
+pub record IsTurn (state : State) (routers size router : ℕ) : Type 0 where
+  pub inside : router < routers
+  pub sized : open_size state router ≡ Some size
 
-abbrev pub IsLeastUpto : State → ℕ → Option Open → Type 0
-IsLeastUpto state upto None = IsClosed state upto
-IsLeastUpto state upto (Some found) = IsLeastOf state upto found
-
+-- of so many routers this one is open, and none is open with a smaller offer
 pub record IsLeast (state : State) (routers router : ℕ) : Type 0 where
   pub size : ℕ
-  pub of : IsLeastOf state routers (record { router = router; size = size })
+  pub turn : IsTurn state routers size router
+  pub least : (u size' : ℕ) → u < routers → open_size state u ≡ Some size' → size ≤ size'
 
 abbrev pub is_offered : State → ℕ → Bool
 is_offered state router = is_none (label state.labels router) && is_some (best_at state.bests router)

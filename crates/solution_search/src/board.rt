@@ -2,9 +2,12 @@
 
 ghost use Rattle.std.specs.Prelude.{◌≡◌, ◌<◌, ◌++◌, ◌∷◌, [], IfOk, length, slice_set, slice_index_or};
 ghost use Rattle.solution_search.specs.Boards.{best_at, difference_of, noted_tie, SameButBests, SameButWaits};
+ghost use Rattle.solution_search.specs.Queues.{KeepsQueued};
 
 use crate::bests::{Best, Difference, is_told};
+use crate::queue::Queue;
 use base_kit::NoMemory;
+use route_keys::size_of;
 use srp_core::Labels;
 use std::mem::replace;
 
@@ -47,13 +50,20 @@ pub(crate) struct Board {
     pub(crate) tie: Option<Tie>,
 }
 
-/// Puts a best offer in the place of the router's own.
-pub(crate) fn put_best(board: &mut Board, router: u32, best: Best) -> Result<(), NoMemory>
+/// Puts a best offer in the place of the router's own, and the router into the queue.
+pub(crate) fn put_best(
+    board: &mut Board,
+    queue: &mut Queue,
+    router: u32,
+    best: Best,
+) -> Result<(), NoMemory>
     requires { router < length board.old.bests.items }
     ensures same { IfOk result (λ _. SameButBests board.old board.new) }
     ensures bests { IfOk result (λ _. board.new.bests.items ≡ slice_set board.old.bests.items router (Some best)) }
     ensures changes { IfOk result (λ _. board.new.changes.items ≡ board.old.changes.items ++ Change.Offered router (best_at board.old.bests.items router) ∷ []) }
+    ensures queued { IfOk result (λ _. KeepsQueued board.old queue.old board.new queue.new) }
 {
+    queue.push(size_of(&best.route), router)?;
     let before = replace(&mut board.bests[router as usize], Some(best));
     board.changes.push(Change::Offered { router, before })?;
     Ok(())

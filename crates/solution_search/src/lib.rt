@@ -16,12 +16,14 @@ mod board;
 mod looking;
 mod lookups;
 mod offers;
+mod queue;
 mod searching;
 mod settling;
 mod start;
 mod sweeping;
 mod undoing;
 mod visitor;
+mod weighing;
 
 pub use bests::Difference;
 pub use board::Tie;

@@ -1,18 +1,14 @@
 //! Which router is looked at next.
 
-ghost use Rattle.std.specs.Prelude.{◌≡◌, ◌+◌, ◌<◌, MatchOption, MatchBool, is_some};
+ghost use Rattle.std.specs.Prelude.{◌≡◌, ◌<◌, ℕ, IfOk, MatchOption, MatchBool, Some, is_some};
 ghost use Rattle.solution_search.specs.Boards.{Fits, state_of};
-ghost use Rattle.solution_search.specs.Looks.{is_above, open_size, IsLeastUpto, IsLeast, IsClosed, is_offered, HasOffered, HasNoneOffered};
+ghost use Rattle.solution_search.specs.Looks.{is_above, open_size, IsTurn, IsLeast, IsClosed, is_offered, HasOffered, HasNoneOffered};
+ghost use Rattle.solution_search.specs.Queues.{IsListed, IsQueued, KeepsListed};
 
 use crate::board::Board;
+use crate::queue::Queue;
+use base_kit::NoMemory;
 use route_keys::{preference_of, size_of};
-
-/// An open router, and the size of its best offer.
-#[derive(Clone, Copy, Debug, PartialEq, Eq)]
-pub(crate) struct Open {
-    router: u32,
-    size: u64,
-}
 
 /// Whether a route has a higher preference than the router waits for, if it waits.
 pub(crate) fn is_above(awaited: Option<u32>, preference: u32) -> bool
@@ -54,40 +50,53 @@ pub(crate) fn is_open(board: &Board, routers: u32, router: u32) -> bool
     open_size(board, routers, router).is_some()
 }
 
-// The open router of the least size so far, or the next one if it is open and its size is less.
-fn smaller(board: &Board, routers: u32, found: Option<Open>, router: u32) -> Option<Open>
+// Whether the router is open, and its best offer has that size.
+fn is_turn(board: &Board, routers: u32, size: u64, router: u32) -> bool
+    requires { Fits routers board.now }
+    ensures { MatchBool result (IsTurn (state_of board.now) routers size router) (¬ IsTurn (state_of board.now) routers size router) }
+{
+    router < routers && open_size(board, routers, router) == Some(size)
+}
+
+/// The open router whose best offer has the least size. What stands before it in the queue is dropped.
+pub(crate) fn next_router(board: &Board, queue: &mut Queue, routers: u32) -> Option<u32>
+    requires fits { Fits routers board.now }
+    requires queued { IsQueued (state_of board.now) queue.old }
+    ensures next { MatchOption result (IsClosed (state_of board.now) routers) (IsLeast (state_of board.now) routers) }
+    ensures queued { IsQueued (state_of board.now) queue.new }
+{
+    while let Some((size, router)) = queue.first() {
+        if is_turn(board, routers, size, router) {
+            return Some(router);
+        }
+        queue.drop_first();
+    }
+    None
+}
+
+// Puts the router into the queue if it is open.
+fn queue_open(board: &Board, queue: &mut Queue, routers: u32, router: u32) -> Result<(), NoMemory>
     requires fits { Fits routers board.now }
     requires router { router < routers }
-    requires found { IsLeastUpto (state_of board.now) router found }
-    ensures { IsLeastUpto (state_of board.now) (router + 1) result }
+    ensures kept { IfOk result (λ _. KeepsListed queue.old queue.new) }
+    ensures queued { IfOk result (λ _. (size : ℕ) → open_size (state_of board.now) router ≡ Some size → IsListed queue.new size router) }
 {
-    let size = match open_size(board, routers, router) {
-        None => return found,
-        Some(size) => size,
-    };
-    match found {
-        None => Some(Open { router, size }),
-        Some(open) => if size < open.size {
-            Some(Open { router, size })
-        } else {
-            Some(open)
-        },
+    match open_size(board, routers, router) {
+        None => Ok(()),
+        Some(size) => queue.push(size, router),
     }
 }
 
-/// The open router whose best offer has the least size, the first one of several.
-pub(crate) fn next_router(board: &Board, routers: u32) -> Option<u32>
+/// Puts the open routers into the queue, in the place of what it has.
+pub(crate) fn queue_all(board: &Board, queue: &mut Queue, routers: u32) -> Result<(), NoMemory>
     requires { Fits routers board.now }
-    ensures { MatchOption result (IsClosed (state_of board.now) routers) (IsLeast (state_of board.now) routers) }
+    ensures { IfOk result (λ _. IsQueued (state_of board.now) queue.new) }
 {
-    let mut found = None;
+    queue.clear();
     for router in 0..routers {
-        found = smaller(board, routers, found, router);
+        queue_open(board, queue, routers, router)?;
     }
-    match found {
-        None => None,
-        Some(open) => Some(open.router),
-    }
+    Ok(())
 }
 
 /// Whether the router has an offer and no label.

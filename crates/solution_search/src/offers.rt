@@ -3,12 +3,13 @@
 ghost use Rattle.std.specs.Prelude.{◌≡◌, ◌<◌, suc, IfOk, length, option_and_then};
 ghost use Rattle.srp_core.specs.Acts.{step_by, prepended};
 ghost use Rattle.srp_core.specs.Candidates.{over, passed};
-ghost use Rattle.srp_core.specs.Problem.{count};
+ghost use Rattle.srp_core.specs.Problem.{count, is_lone_number};
+ghost use Rattle.srp_core.specs.Routes.{chosen, path_of};
 ghost use Rattle.solution_search.specs.Offers.{IsOfferOf, OffersRoute};
 
 use crate::bests::Best;
 use crate::lookups::Lookups;
-use base_kit::{List, NoMemory};
+use base_kit::{List, NoMemory, NumSet};
 use route_keys::lone_on;
 use route_maps::import;
 use srp_core::{Act, Labels, Route};
@@ -59,11 +60,21 @@ fn step(alloc: Global, act: &Act, number: u32, route: &Route) -> Result<Option<R
     }
 }
 
+// The numbers of lone routers on the path of a route. Where no router is lone, the path is not looked at.
+fn lone_of(lookups: &Lookups, route: &Route) -> Result<NumSet, NoMemory>
+    ensures { IfOk result (λ lone. lone ≡ chosen (is_lone_number lookups.now) (path_of route.now)) }
+{
+    if lookups.lone.is_empty() {
+        return Ok(NumSet::new(lookups.alloc));
+    }
+    lone_on(lookups.alloc, &lookups.lone, route)
+}
+
 /// The route as an offer that no other ties with.
 pub(crate) fn offer_of(lookups: &Lookups, route: Route) -> Result<Best, NoMemory>
     ensures { IfOk result (IsOfferOf lookups.now route) }
 {
-    let lone = lone_on(lookups.alloc, &lookups.lone, &route)?;
+    let lone = lone_of(lookups, &route)?;
     Ok(Best {
         route,
         lone,

@@ -1,16 +1,20 @@
 //! A router is settled.
 
-ghost use Rattle.std.specs.Prelude.{◌≡◌, ◌<◌, IfOk, None, Some, length};
+ghost use Rattle.std.specs.Prelude.{◌≡◌, ◌<◌, IfOk, None, Some, length, true};
 ghost use Rattle.srp_core.specs.Problem.{count};
 ghost use Rattle.srp_core.specs.Stability.{label};
 ghost use Rattle.solution_search.specs.declared.bests.Best.{Best as BestOffer};
 ghost use Rattle.solution_search.specs.Boards.{best_at, Fits, Adds, Takes, noted_by, noted_at_take, outcome_of};
+ghost use Rattle.solution_search.specs.Queues.{KeepsQueued, Turns};
 ghost use Rattle.solution_search.specs.Settled.{HasGiven, HasSpread, HasSettled};
+ghost use Rattle.solution_search.specs.declared.settling.Outcome.TheVariants.{Fine as IsFine};
 
 use crate::bests::{Best, Difference, Rank, rank_of, replacement};
 use crate::board::{Board, Change, note_tie, put_best};
 use crate::lookups::Lookups;
 use crate::offers::offer_over;
+use crate::queue::Queue;
+use crate::weighing::are_worse;
 use base_kit::NoMemory;
 
 /// What a further candidate makes of the labels that are settled.
@@ -45,17 +49,19 @@ fn judge(board: &mut Board, router: u32, rank: Rank) -> Outcome
 fn add_offer(
     lookups: &Lookups,
     board: &mut Board,
+    queue: &mut Queue,
     router: u32,
     offer: Best,
 ) -> Result<Outcome, NoMemory>
     requires fits { Fits (count lookups.now) board.old }
     requires router { router < count lookups.now }
-    ensures { IfOk result (Adds board.old board.new router offer) }
+    ensures adds { IfOk result (Adds board.old board.new router offer) }
+    ensures queued { IfOk result (λ _. KeepsQueued board.old queue.old board.new queue.new) }
 {
     let is_settled = board.labels.as_slice()[router as usize].is_some();
     match &board.bests[router as usize] {
         None => {
-            put_best(board, router, offer)?;
+            put_best(board, queue, router, offer)?;
             Ok(Outcome::Fine)
         }
         Some(best) => {
@@ -66,7 +72,7 @@ fn add_offer(
             match replacement(lookups.alloc, best, offer)? {
                 None => Ok(Outcome::Fine),
                 Some(better) => {
-                    put_best(board, router, better)?;
+                    put_best(board, queue, router, better)?;
                     Ok(Outcome::Fine)
                 }
             }
@@ -74,10 +80,29 @@ fn add_offer(
     }
 }
 
+// Whether what the router gives over an edge is worse than the best offer of the importer, whichever route it is.
+fn is_beaten(lookups: &Lookups, board: &Board, router: u32, importer: u32, act: u32) -> bool
+    requires fits { Fits (count lookups.now) board.now }
+    requires router { router < count lookups.now }
+    requires importer { importer < count lookups.now }
+    requires act { act < length lookups.now.acts }
+    ensures { result ≡ true → HasGiven lookups.now board.now board.now router (record { importer = importer; act = act }) IsFine }
+{
+    let _known = lookups.srp.count();
+    let Some(from) = &board.labels.as_slice()[router as usize] else {
+        return false;
+    };
+    let Some(best) = &board.bests[importer as usize] else {
+        return false;
+    };
+    are_worse(lookups, act, from, &best.route)
+}
+
 // What a router that was settled gives another over an edge.
 fn give(
     lookups: &Lookups,
     board: &mut Board,
+    queue: &mut Queue,
     router: u32,
     importer: u32,
     act: u32,
@@ -86,27 +111,37 @@ fn give(
     requires router { router < count lookups.now }
     requires importer { importer < count lookups.now }
     requires act { act < length lookups.now.acts }
-    ensures { IfOk result (HasGiven lookups.now board.old board.new router (record { importer = importer; act = act })) }
+    ensures given { IfOk result (HasGiven lookups.now board.old board.new router (record { importer = importer; act = act })) }
+    ensures queued { IfOk result (λ _. KeepsQueued board.old queue.old board.new queue.new) }
 {
     let _known = lookups.srp.count();
+    if is_beaten(lookups, board, router, importer, act) {
+        return Ok(Outcome::Fine);
+    }
     match offer_over(lookups, &board.labels, router, importer, act)? {
         None => Ok(Outcome::Fine),
         Some(offer) => {
-            let outcome = add_offer(lookups, board, importer, offer)?;
+            let outcome = add_offer(lookups, board, queue, importer, offer)?;
             Ok(outcome)
         }
     }
 }
 
 // What a router that was settled gives the others.
-fn spread(lookups: &Lookups, board: &mut Board, router: u32) -> Result<Outcome, NoMemory>
+fn spread(
+    lookups: &Lookups,
+    board: &mut Board,
+    queue: &mut Queue,
+    router: u32,
+) -> Result<Outcome, NoMemory>
     requires fits { Fits (count lookups.now) board.old }
     requires router { router < count lookups.now }
-    ensures { IfOk result (HasSpread lookups.now board.old board.new router) }
+    ensures spread { IfOk result (HasSpread lookups.now board.old board.new router) }
+    ensures queued { IfOk result (λ _. KeepsQueued board.old queue.old board.new queue.new) }
 {
     let _known = lookups.srp.count();
     for import in &lookups.exports.imports[router as usize] {
-        match give(lookups, board, router, import.importer, import.act)? {
+        match give(lookups, board, queue, router, import.importer, import.act)? {
             Outcome::Upset => return Ok(Outcome::Upset),
             Outcome::Fine => {}
         }
@@ -129,6 +164,7 @@ fn take(lookups: &Lookups, board: &mut Board, router: u32) -> Result<(), NoMemor
     requires fits { Fits (count lookups.now) board.old }
     requires router { router < count lookups.now }
     ensures fits { IfOk result (λ _. Fits (count lookups.now) board.new) }
+    ensures queued { (turns : Turns) → IfOk result (λ _. KeepsQueued board.old turns board.new turns) }
     ensures takes { IfOk result (λ _. (best : BestOffer) → best_at board.old.bests.items router ≡ Some best → Takes board.old board.new router best) }
 {
     match &board.bests[router as usize] {
@@ -146,13 +182,19 @@ fn take(lookups: &Lookups, board: &mut Board, router: u32) -> Result<(), NoMemor
 
 /// The router takes its best offer, and offers what it took to the others. Upset: a label that was
 /// settled is beaten now.
-pub(crate) fn settle(lookups: &Lookups, board: &mut Board, router: u32) -> Result<Outcome, NoMemory>
+pub(crate) fn settle(
+    lookups: &Lookups,
+    board: &mut Board,
+    queue: &mut Queue,
+    router: u32,
+) -> Result<Outcome, NoMemory>
     requires fits { Fits (count lookups.now) board.old }
     requires router { router < count lookups.now }
-    ensures { IfOk result (λ outcome. (best : BestOffer) → best_at board.old.bests.items router ≡ Some best → label board.old.labels router ≡ None → HasSettled lookups.now board.old board.new router best outcome) }
+    ensures queued { IfOk result (λ _. KeepsQueued board.old queue.old board.new queue.new) }
+    ensures settled { IfOk result (λ outcome. (best : BestOffer) → best_at board.old.bests.items router ≡ Some best → label board.old.labels router ≡ None → HasSettled lookups.now board.old board.new router best outcome) }
 {
     let _known = lookups.srp.count();
     take(lookups, board, router)?;
-    let outcome = spread(lookups, board, router)?;
+    let outcome = spread(lookups, board, queue, router)?;
     Ok(outcome)
 }

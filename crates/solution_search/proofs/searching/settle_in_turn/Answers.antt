@@ -17,20 +17,20 @@ put_fork-requires-clause-unsettled c =
 pub settle-requires-clause-fits : goal.settle-requires-clause-fits
 settle-requires-clause-fits c =
     (forked c.args.lookups.now (subst IsProblem c.lookups.view_is c.count-known.ensures.rules) c.args.board.now c.requires.board c.args.router c.requires.least
-    c.put_fork.new.board c.in_ok-put_fork.ensures).fits
+    c.put_fork.new.board c.in_ok-put_fork.ensures.forks).fits
 
 pub settle-requires-clause-router : goal.settle-requires-clause-router
 settle-requires-clause-router c =
     inside c.args.lookups.now (subst IsProblem c.lookups.view_is c.count-known.ensures.rules) c.args.board.now c.requires.board c.args.router c.requires.least
 
-pub returns-in-Fine : goal.returns-in-Fine
-returns-in-Fine c =
+pub returns-in-Fine-clause-steps : goal.returns-in-Fine-clause-steps
+returns-in-Fine-clause-steps c =
     let step = in_turn c.args.lookups.now (subst IsProblem c.lookups.view_is c.count-known.ensures.rules) c.args.board.now c.requires.board c.args.router
-    c.requires.least c.put_fork.new.board c.in_ok-put_fork.ensures c.settle.new.board c.in_ok-settle.field-0 c.in_ok-settle.ensures in
+    c.requires.least c.put_fork.new.board c.in_ok-put_fork.ensures.forks c.settle.new.board c.in_ok-settle.field-0 c.in_ok-settle.ensures.settled in
     subst (λ (o : Outcome). SearchSteps c.args.lookups.now c.args.board.now c.settle.new.board (look_of o)) c.in-Fine.is step
 
-pub returns-in-Upset : goal.returns-in-Upset
-returns-in-Upset c =
+pub returns-in-Upset-clause-steps : goal.returns-in-Upset-clause-steps
+returns-in-Upset-clause-steps c =
     let step = in_turn c.args.lookups.now (subst IsProblem c.lookups.view_is c.count-known.ensures.rules) c.args.board.now c.requires.board c.args.router
-    c.requires.least c.put_fork.new.board c.in_ok-put_fork.ensures c.settle.new.board c.in_ok-settle.field-0 c.in_ok-settle.ensures in
+    c.requires.least c.put_fork.new.board c.in_ok-put_fork.ensures.forks c.settle.new.board c.in_ok-settle.field-0 c.in_ok-settle.ensures.settled in
     subst (λ (o : Outcome). SearchSteps c.args.lookups.now c.args.board.now c.settle.new.board (look_of o)) c.in-Upset.is step

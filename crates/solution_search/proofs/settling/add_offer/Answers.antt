@@ -7,8 +7,8 @@ use Rattle.solution_search.specs.Boards.{best_at}
 use Rattle.solution_search.proofs.Adding.{adds_nothing, adds_better}
 use Rattle.solution_search.proofs.settling.add_offer.Goals as goal
 
-pub returns-in-None-2 : goal.returns-in-None-2
-returns-in-None-2 c =
+pub returns-in-None-2-clause-adds : goal.returns-in-None-2-clause-adds
+returns-in-None-2-clause-adds c =
     let bests = c.args.board.now.bests.items in
     let inside : c.args.router < length bests = (let r = c.requires.router in let f = c.requires.fits.bests in omega (arith, r, f)) in
     let at : c.index.result.now ≡ slice_index_or bests c.args.router c.index.result.now = c.index.ensures in
@@ -17,8 +17,8 @@ returns-in-None-2 c =
     let is : c.in_ok-replacement-in-Some.field-0 ≡ replaced (rank_of c.args.offer c.in-Some.best) c.in-Some.best c.args.offer = c.in_ok-replacement-in-Some.ensures in
     adds_nothing c.args.board.now c.args.router c.args.offer c.in-Some.best known unsettled (sym is ∙ c.in-None-2.is)
 
-pub returns-in_ok-put_best-in-Some-2 : goal.returns-in_ok-put_best-in-Some-2
-returns-in_ok-put_best-in-Some-2 c =
+pub returns-in_ok-put_best-in-Some-2-clause-adds : goal.returns-in_ok-put_best-in-Some-2-clause-adds
+returns-in_ok-put_best-in-Some-2-clause-adds c =
     let bests = c.args.board.now.bests.items in
     let inside : c.args.router < length bests = (let r = c.requires.router in let f = c.requires.fits.bests in omega (arith, r, f)) in
     let at : c.index.result.now ≡ slice_index_or bests c.args.router c.index.result.now = c.index.ensures in

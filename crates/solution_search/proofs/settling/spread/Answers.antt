@@ -23,6 +23,7 @@ loop-import-init c =
           ∙ tables.index.each c.args.router c.index.result.now (omega (arith, total, inside, same))
           ∙ ap (λ (p : Problem). filter_map (import_from c.args.router) p.edges) c.lookups.view_is;
       spread = spread_none c.args.lookups.now good c.args.board.now c.args.router c.requires.fits;
+      queued = λ q. q;
     }
 
 pub loop-import-preserved : goal.loop-import-preserved
@@ -32,13 +33,14 @@ loop-import-preserved c =
     let d : Import = record { importer = 0; act = 0 } in
     let i = get_or items c.loop-import.import-index d in
     let e = listed_edge c.args.lookups.now good c.args.router items i c.loop-import.invariant.all (listed_at items c.loop-import.import-index d c.loop-import-test.true) in
-    let given = subst (HasGiven c.args.lookups.now c.loop-import.board c.give.new.board c.args.router i) c.in-Fine.is c.in_ok-give.ensures in
+    let given = subst (HasGiven c.args.lookups.now c.loop-import.board c.give.new.board c.args.router i) c.in-Fine.is c.in_ok-give.ensures.given in
     record {
       all = c.loop-import.invariant.all;
       spread = subst (Spread c.args.lookups.now c.args.board.now c.give.new.board c.args.router)
           (sym (take_more items c.loop-import.import-index d c.loop-import-test.true))
           (spread_more c.args.lookups.now good c.args.board.now c.loop-import.board c.give.new.board c.args.router (take c.loop-import.import-index items) i e.0 e.1 e.2
           c.loop-import.invariant.spread given);
+      queued = λ q. c.in_ok-give.ensures.queued (c.loop-import.invariant.queued q);
     }
 
 pub give-requires : goal.give-requires
@@ -52,20 +54,20 @@ give-requires c =
     let so_far = c.loop-import.invariant.spread in
     record { fits = so_far.fits; router = c.requires.router; importer = ends.0; act = ends.1 }
 
-pub returns : goal.returns
-returns c =
+pub returns-clause-spread : goal.returns-clause-spread
+returns-clause-spread c =
     let good = subst IsProblem c.lookups.view_is c.count-known.ensures.rules in
     let items = c.deref-import-items.result.now in
     spread_all c.args.lookups.now good c.args.board.now c.loop-import.board c.args.router (take c.loop-import.import-index items) c.requires.router
     (take_all c.loop-import.import-index items c.loop-import-test.false ∙ c.loop-import.invariant.all) c.loop-import.invariant.spread
 
-pub returns-in-Upset : goal.returns-in-Upset
-returns-in-Upset c =
+pub returns-in-Upset-clause-spread : goal.returns-in-Upset-clause-spread
+returns-in-Upset-clause-spread c =
     let good = subst IsProblem c.lookups.view_is c.count-known.ensures.rules in
     let items = c.deref-import-items.result.now in
     let d : Import = record { importer = 0; act = 0 } in
     let i = get_or items c.loop-import.import-index d in
     let e = listed_edge c.args.lookups.now good c.args.router items i c.loop-import.invariant.all (listed_at items c.loop-import.import-index d c.loop-import-test.true) in
-    let given = subst (HasGiven c.args.lookups.now c.loop-import.board c.give.new.board c.args.router i) c.in-Upset.is c.in_ok-give.ensures in
+    let given = subst (HasGiven c.args.lookups.now c.loop-import.board c.give.new.board c.args.router i) c.in-Upset.is c.in_ok-give.ensures.given in
     spread_upset c.args.lookups.now good c.args.board.now c.loop-import.board c.give.new.board c.args.router (take c.loop-import.import-index items) i e.0 e.1 e.2
     c.loop-import.invariant.spread given

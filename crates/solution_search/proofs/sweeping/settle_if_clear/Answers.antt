@@ -36,7 +36,7 @@ returns-in-Fine-clause-steps c =
     let offered = sym c.is_offered.ensures ∙ c.if-not-is_offered.false in
     let nothing = c.in_ok-nothing_comes.ensures c.if-not-branch.false None c.requires.outlook in
     let step = clear_taken P good old c.requires.board c.args.router c.requires.router offered nothing
-    (sym c.is_open.ensures ∙ c.if-not-is_open.false) c.settle.new.board c.in_ok-settle.field-0 c.in_ok-settle.ensures in
+    (sym c.is_open.ensures ∙ c.if-not-is_open.false) c.settle.new.board c.in_ok-settle.field-0 c.in_ok-settle.ensures.settled in
     subst (λ (o : Outcome). SearchSteps P old c.settle.new.board (look_of o)) c.in-Fine.is step
 
 pub returns-in-Fine-clause-outlook : goal.returns-in-Fine-clause-outlook
@@ -47,7 +47,7 @@ returns-in-Fine-clause-outlook c =
     let offered = sym c.is_offered.ensures ∙ c.if-not-is_offered.false in
     let nothing = c.in_ok-nothing_comes.ensures c.if-not-branch.false None c.requires.outlook in
     λ t. foresees_on P good old c.requires.board c.args.router c.requires.router offered nothing
-    (sym c.is_open.ensures ∙ c.if-not-is_open.false) c.settle.new.board c.in_ok-settle.field-0 c.in_ok-settle.ensures
+    (sym c.is_open.ensures ∙ c.if-not-is_open.false) c.settle.new.board c.in_ok-settle.field-0 c.in_ok-settle.ensures.settled
     c.args.outlook.now.table.items c.requires.outlook
 
 pub returns-in-Upset-clause-steps : goal.returns-in-Upset-clause-steps
@@ -58,5 +58,5 @@ returns-in-Upset-clause-steps c =
     let offered = sym c.is_offered.ensures ∙ c.if-not-is_offered.false in
     let nothing = c.in_ok-nothing_comes.ensures c.if-not-branch.false None c.requires.outlook in
     let step = clear_taken P good old c.requires.board c.args.router c.requires.router offered nothing
-    (sym c.is_open.ensures ∙ c.if-not-is_open.false) c.settle.new.board c.in_ok-settle.field-0 c.in_ok-settle.ensures in
+    (sym c.is_open.ensures ∙ c.if-not-is_open.false) c.settle.new.board c.in_ok-settle.field-0 c.in_ok-settle.ensures.settled in
     subst (λ (o : Outcome). SearchSteps P old c.settle.new.board (look_of o)) c.in-Upset.is step
