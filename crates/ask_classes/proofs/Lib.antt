@@ -1,3 +1,4 @@
+mod Knowing
 mod Losses
 mod Parts
 mod Trying

@@ -12,6 +12,7 @@ use Rattle.ask_names.specs.Routers.{question_for}
 use Rattle.solution_answers.specs.Questions.{IsShown, IsAnswerPart}
 use Rattle.solution_answers.specs.Verdicts.{is_yes, answer_line, IsAnswer}
 use Rattle.solution_answers.specs.Writing.{Writes}
+use Rattle.ask_classes.specs.Answered.{WritesAnswer}
 use Rattle.ask_classes.specs.Failing.{Loss, Trial, trial_line, failing_line, trials_text, IsFailingPart}
 use Rattle.ask_classes.specs.Tries.{IsTally, WritesTrials}
 use Rattle.ask_classes.specs.declared.tally.Tally.{Tally}
@@ -20,12 +21,15 @@ use Rattle.ask_classes.proofs.Trying.{all_pass}
 -- the line of an answer, and what is shown behind it
 pub answer_written : (shows : Bool) (number : ℕ) (asked : Question) (problem : Problem) (verdict : Verdict) (tied : Option Tie) (old mid new line shown : List ℕ) →
     IsAnswer problem asked verdict tied → IsShown shows verdict problem asked shown → line ≡ answer_line problem.names number verdict tied →
-    mid ≡ old ++ line → new ≡ mid ++ shown → Writes (IsAnswerPart shows number asked problem) old new (is_yes verdict)
+    mid ≡ old ++ line → new ≡ mid ++ shown → WritesAnswer shows number asked problem old new verdict
 answer_written shows number asked problem verdict tied old mid new line shown answer is_shown told first second = record {
-  part = record { bytes = line ++ shown; all = is_yes verdict };
-  is = record { verdict = verdict; tied = tied; answer = answer; text = shown; shown = is_shown; bytes = ap (λ (t : List ℕ). t ++ shown) told; all = refl };
-  bytes = second ∙ ap (λ (t : List ℕ). t ++ shown) first ∙ append_assoc old line shown;
-  all_is = refl;
+  written = record {
+    part = record { bytes = line ++ shown; all = is_yes verdict };
+    is = record { verdict = verdict; tied = tied; answer = answer; text = shown; shown = is_shown; bytes = ap (λ (t : List ℕ). t ++ shown) told; all = refl };
+    bytes = second ∙ ap (λ (t : List ℕ). t ++ shown) first ∙ append_assoc old line shown;
+    all_is = refl;
+  };
+  is = answer.is;
 }
 
 -- the answer, the lines of those that failed, and the last line

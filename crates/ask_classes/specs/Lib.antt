@@ -1,4 +1,6 @@
+pub mod Answered
 pub mod Failing
+pub mod Known
 pub mod Scenes
 pub mod Tasks
 pub mod Tries

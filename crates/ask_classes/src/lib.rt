@@ -7,6 +7,7 @@
 
 mod asking;
 mod class_parts;
+mod known;
 mod link_trials;
 mod manner;
 mod router_trials;

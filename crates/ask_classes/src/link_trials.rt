@@ -1,11 +1,14 @@
 //! The answers of a class without each one link more.
 
-ghost use Rattle.std.specs.Prelude.{◌≡◌, ◌<◌, ◌≤◌, ◌^◌, ◌++◌, IfOk, OnOk, length};
-ghost use Rattle.ask_classes.specs.Failing.{is_link_left, link_losses, loss_of_link, link_rank, trial_line};
+ghost use Rattle.std.specs.Prelude.{◌≡◌, ◌<◌, ◌≤◌, ◌^◌, ◌++◌, true, IfOk, OnOk, length, slice_set};
+ghost use Rattle.srp_core.specs.Without.{marked_down};
+ghost use Rattle.ask_classes.specs.Failing.{is_link_left, link_losses, loss_of_link, link_rank, trial_line, IsTried, Loss};
+ghost use Rattle.ask_classes.specs.Known.{KnowsTrials};
 ghost use Rattle.ask_classes.specs.Scenes.{IsAsking};
 ghost use Rattle.ask_classes.specs.Tries.{StepsOver, trial_of, WritesTrials};
 
 use crate::asking::{Asking, is_marked, with_mark};
+use crate::known::Known;
 use crate::tally::Tally;
 use ask_names::name_at;
 use base_kit::NoMemory;
@@ -57,16 +60,37 @@ fn put_trial(
     put(bytes, line.as_bytes())
 }
 
+// The answer without a link more. If it is known, nothing is asked.
+fn answer_without(
+    alloc: Global,
+    asking: &Asking,
+    known: &Known,
+    place: usize,
+) -> Result<Answer, NoMemory>
+    requires asking { IsAsking asking.now }
+    requires known { KnowsTrials asking.now known.now }
+    requires place { place < length asking.now.scene.now.links.now }
+    ensures { IfOk result (λ answer. (loss : Loss) → loss.down ≡ marked_down asking.now.scene.now.routers_down.now (slice_set asking.now.scene.now.links_down.now place true) → IsTried asking.now.problems.now.whole.now asking.now.asks.now loss (trial_of answer)) }
+{
+    if is_marked(&known.marks, place) {
+        return Ok(known.answer(alloc));
+    }
+    let more = with_mark(alloc, asking.scene.links_down, place)?;
+    asking.without(alloc, asking.scene.routers_down, &more)
+}
+
 // Tries the loss of a link, if it is left.
 fn try_link(
     alloc: Global,
     bytes: &mut Vec<u8>,
     asking: &Asking,
+    known: &Known,
     place: usize,
     link: Link,
     tally: Tally,
 ) -> Result<Tally, NoMemory>
     requires asking { IsAsking asking.now }
+    requires known { KnowsTrials asking.now known.now }
     requires place { place < length asking.now.scene.now.links.now }
     requires tried { tally.tried < 2 ^ 32 }
     requires failed { tally.failed ≤ tally.tried }
@@ -79,8 +103,7 @@ fn try_link(
     if !is_link_left(routers, links, place, link) {
         return Ok(tally);
     }
-    let more = with_mark(alloc, links, place)?;
-    let answer = asking.without(alloc, routers, &more)?;
+    let answer = answer_without(alloc, asking, known, place)?;
     put_trial(alloc, bytes, asking, place, link, &answer)?;
     Ok(tally.with(&answer))
 }
@@ -93,15 +116,17 @@ pub(crate) fn put_link_trials(
     alloc: Global,
     bytes: &mut Vec<u8>,
     asking: &Asking,
+    known: &Known,
 ) -> Result<Tally, NoMemory>
-    requires { IsAsking asking.now }
+    requires asking { IsAsking asking.now }
+    requires known { KnowsTrials asking.now known.now }
     ensures { IfOk result (WritesTrials asking.now.problems.now.whole.now asking.now.asks.now
         (link_losses asking.now.problems.now.whole.now.names asking.now.scene.now.links.now asking.now.scene.now.routers_down.now asking.now.scene.now.links_down.now) bytes.old.items bytes.new.items) }
 {
     let links = asking.scene.links;
     let mut tally = Tally::none();
     for place in 0..links.len() {
-        tally = try_link(alloc, bytes, asking, place, links[place], tally)?;
+        tally = try_link(alloc, bytes, asking, known, place, links[place], tally)?;
     }
     Ok(tally)
 }

@@ -1,9 +1,8 @@
-use Rattle.std.proofs.Common.{List, ℕ, ◌++◌, ap, ◌∙◌, subst, sym}
+use Rattle.std.proofs.Common.{List, ℕ, ◌++◌, ap, ◌∙◌, subst}
 use Rattle.std.specs.Prelude.{string_bytes}
 use Rattle.srp_core.specs.Without.{marked_down}
 use Rattle.srp_questions.specs.declared.question.Question.{Question}
-use Rattle.solution_answers.specs.Questions.{IsAnswerPart}
-use Rattle.solution_answers.specs.Writing.{Writes}
+use Rattle.ask_classes.specs.Answered.{WritesAnswer}
 use Rattle.ask_classes.proofs.Losses.{asked_of_left}
 use Rattle.ask_classes.proofs.Parts.{answer_written}
 use Rattle.ask_classes.proofs.class_parts.put_answer.Goals as goal
@@ -26,9 +25,8 @@ returns c =
     let old = c.args.bytes.now.items in
     let is = c.in_ok-question.ensures whole.names asking.scene.now.links_down.now c.requires.marks in
     let line = string_bytes c.in_ok-line.line in
-    subst (λ (q : Question). Writes (IsAnswerPart c.args.shows number q left) old c.put-2.new.bytes.items c.is_yes.result) is
-    (subst (Writes (IsAnswerPart c.args.shows number c.in_ok-question.question left) old c.put-2.new.bytes.items) (sym c.is_yes.ensures)
+    subst (λ (q : Question). WritesAnswer c.args.shows number q left old c.put-2.new.bytes.items answer.verdict) is
     (answer_written c.args.shows number c.in_ok-question.question left answer.verdict answer.tie old c.put.new.bytes.items c.put-2.new.bytes.items line answer.shown.items
     c.in_ok-answer.ensures.answer c.in_ok-answer.ensures.shown c.in_ok-line.ensures
     (c.in_ok-put.ensures ∙ ap (λ (t : List ℕ). old ++ t) c.as_bytes.ensures.value)
-    (c.in_ok-put-2.ensures ∙ ap (λ (t : List ℕ). c.put.new.bytes.items ++ t) c.deref.ensures.value)))
+    (c.in_ok-put-2.ensures ∙ ap (λ (t : List ℕ). c.put.new.bytes.items ++ t) c.deref.ensures.value))

@@ -1,12 +1,13 @@
-use Rattle.std.proofs.Common.{◌&&◌, Bool, ap, sym, ◌∙◌, subst}
+use Rattle.std.proofs.Common.{sym, subst}
 use Rattle.srp_core.specs.Without.{marked_down}
+use Rattle.solution_answers.specs.Verdicts.{is_yes}
 use Rattle.solution_answers.specs.Writing.{Writes}
 use Rattle.ask_classes.specs.Failing.{IsFailingPart, link_losses}
 use Rattle.ask_classes.proofs.Parts.{failing_written}
 use Rattle.ask_classes.proofs.class_parts.put_failing_links.Goals as goal
 
-pub returns-then-yes : goal.returns-then-yes
-returns-then-yes c =
+pub returns : goal.returns
+returns c =
     let asking = c.args.asking.now in
     let whole = asking.problems.now.whole.now in
     let routers = asking.scene.now.routers_down.now in
@@ -16,25 +17,7 @@ returns-then-yes c =
     let number = asking.problems.now.number in
     let left = asking.problems.now.left.now in
     let old = c.args.bytes.now.items in
-    subst (λ (b : Bool). Writes (IsFailingPart asking.asks.now number whole down losses left) old c.put_tally.new.bytes.items (b && c.in_ok-none_failed.none_failed))
-    c.if-yes.true
+    subst (Writes (IsFailingPart asking.asks.now number whole down losses left) old c.put_tally.new.bytes.items) (sym c.are_yes.ensures)
     (failing_written asking.asks.now number whole down losses left old c.put_answer.new.bytes.items c.put_link_trials.new.bytes.items c.put_tally.new.bytes.items
-    c.in_ok-yes.yes c.in_ok-none_failed.none_failed c.in_ok-tally.tally c.requires.scene.left.names c.in_ok-yes.ensures c.in_ok-tally.ensures
-    c.in_ok-none_failed.ensures.bytes c.in_ok-none_failed.ensures.none)
-
-pub returns-else-yes : goal.returns-else-yes
-returns-else-yes c =
-    let asking = c.args.asking.now in
-    let whole = asking.problems.now.whole.now in
-    let routers = asking.scene.now.routers_down.now in
-    let links = asking.scene.now.links_down.now in
-    let losses = link_losses whole.names asking.scene.now.links.now routers links in
-    let down = marked_down routers links in
-    let number = asking.problems.now.number in
-    let left = asking.problems.now.left.now in
-    let old = c.args.bytes.now.items in
-    subst (Writes (IsFailingPart asking.asks.now number whole down losses left) old c.put_tally.new.bytes.items)
-    (ap (λ (b : Bool). b && c.in_ok-none_failed.none_failed) c.if-yes.false ∙ sym c.if-yes.false)
-    (failing_written asking.asks.now number whole down losses left old c.put_answer.new.bytes.items c.put_link_trials.new.bytes.items c.put_tally.new.bytes.items
-    c.in_ok-yes.yes c.in_ok-none_failed.none_failed c.in_ok-tally.tally c.requires.scene.left.names c.in_ok-yes.ensures c.in_ok-tally.ensures
+    (is_yes c.in_ok-verdict.verdict) c.in_ok-none_failed.none_failed c.in_ok-tally.tally c.requires.scene.left.names c.in_ok-verdict.ensures.written c.in_ok-tally.ensures
     c.in_ok-none_failed.ensures.bytes c.in_ok-none_failed.ensures.none)

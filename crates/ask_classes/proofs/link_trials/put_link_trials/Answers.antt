@@ -13,7 +13,7 @@ try_link-requires-clause-tried c =
     let few = tried_few asking.problems.now.whole.now asking.asks.now (link_loss asking) (link_left asking) asking.scene.now.links.now c.loop-place.place
     c.args.bytes.now.items c.loop-place.bytes.items c.loop-place.tally c.loop-place-test.true c.loop-place.invariant in
     let less = c.loop-place-test.true in
-    let many = c.requires.scene.few_links in
+    let many = c.requires.asking.scene.few_links in
     let bound : c.loop-place.tally.tried < 4294967296 = omega (arith, few, less, many) in
     bound
 

@@ -1,5 +1,4 @@
-use Rattle.std.proofs.Common.{◌≡◌, true, ap, sym, ◌∙◌, arith}
-use Rattle.srp_core.specs.Without.{marked_down}
+use Rattle.std.proofs.Common.{◌≡◌, true, refl, arith}
 use Rattle.ask_classes.proofs.Losses.{link_loss, link_left}
 use Rattle.ask_classes.proofs.Trying.{was_tried}
 use Rattle.ask_classes.proofs.link_trials.try_link.Goals as goal
@@ -12,6 +11,4 @@ returns c =
     let is = c.is_link_left.ensures in
     let left : link_left asking (c.args.place, c.args.link) ≡ true = grind (arith, test, is) in
     was_tried asking.problems.now.whole.now asking.asks.now (link_left asking (c.args.place, c.args.link)) loss c.in_ok-answer.answer c.args.bytes.now.items
-    c.put_trial.new.bytes.items c.args.tally c.with.result left
-    (c.in_ok-answer.ensures loss (ap (marked_down asking.scene.now.routers_down.now) (sym (c.deref.ensures.value ∙ c.in_ok-more.ensures))))
-    c.in_ok-put_trial.ensures c.with.ensures
+    c.put_trial.new.bytes.items c.args.tally c.with.result left (c.in_ok-answer.ensures loss refl) c.in_ok-put_trial.ensures c.with.ensures

@@ -1,0 +1,5 @@
+mod Left
+mod Linked
+mod Spares
+mod Standings
+mod Staying
