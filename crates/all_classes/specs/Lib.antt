@@ -4,3 +4,4 @@ pub mod Meets
 pub mod Progress
 pub mod Requests
 pub mod Tellings
+pub mod Work

@@ -6,8 +6,10 @@ ghost use Rattle.io_kit.specs.Ends.{Rose, Took};
 ghost use Rattle.all_classes.specs.Progress.{HasPut, HasPutFew, HasPutPart};
 ghost use Rattle.all_classes.specs.Requests.{span};
 ghost use Rattle.all_classes.specs.Tellings.{IsAnswer};
+ghost use Rattle.all_classes.specs.Work.{IsWorkOf};
 
 use crate::frame::{frame_of, put_frame};
+use crate::shared_work::SharedWork;
 use crate::work::answer;
 use base_kit::NoMemory;
 use bonsai_top::ClassCommand;
@@ -32,16 +34,19 @@ fn put_class<O: Sink>(
     checked: &Checked,
     classes: &[DestClass],
     number: u32,
+    work: &mut SharedWork,
     out: &mut O,
 ) -> Result<bool, Stop>
-    requires { classes.now ≡ classes_of checked.now.network }
+    requires classes { classes.now ≡ classes_of checked.now.network }
+    requires work { IsWorkOf checked.now.network work.old }
+    ensures work { IsWorkOf checked.now.network work.new }
     ensures put { IfOk result (λ done. HasPut (IsAnswer command checked.now.network) number 1 done (O.taken out.old) (O.taken out.new)) }
     ensures no_memory { IsErrOf result Stop.NoMemory → Took (O.taken out.old) (O.taken out.new) [] }
     ensures failed { IsErrOf result Stop.Failed → HasPutPart (IsAnswer command checked.now.network) number 1 (O.taken out.old) (O.taken out.new) }
     ensures cause { IsErrOf result Stop.Failed → Rose (O.faults out.old) (O.faults out.new) }
     ensures later { O.faults out.old ≤ O.faults out.new }
 {
-    let reply = answer(alloc, command, checked, classes, number);
+    let reply = answer(alloc, command, checked, classes, number, work);
     match frame_of(alloc, number, reply) {
         Ok(frame) => match put_frame(out, &frame) {
             Ok(()) => Ok(frame.done),
@@ -66,10 +71,12 @@ pub fn put_frames<O: Sink>(
     classes: &[DestClass],
     from: u32,
     to: u32,
+    work: &mut SharedWork,
     out: &mut O,
 ) -> Result<bool, Stop>
     requires classes { classes.now ≡ classes_of checked.now.network }
     requires short { to ≤ 999999999 }
+    requires work { IsWorkOf checked.now.network work.old }
     ensures all { IfOk result (λ done. HasPut (IsAnswer command checked.now.network) from (span from to) done (O.taken out.old) (O.taken out.new)) }
     ensures no_memory { IsErrOf result Stop.NoMemory → HasPutFew (IsAnswer command checked.now.network) from (span from to) (O.taken out.old) (O.taken out.new) }
     ensures failed { IsErrOf result Stop.Failed → HasPutPart (IsAnswer command checked.now.network) from (span from to) (O.taken out.old) (O.taken out.new) }
@@ -78,7 +85,7 @@ pub fn put_frames<O: Sink>(
 {
     let mut done = true;
     for number in from..to + 1 {
-        match put_class(alloc, command, checked, classes, number, out) {
+        match put_class(alloc, command, checked, classes, number, work, out) {
             Ok(this) => done = both(done, this),
             Err(stop) => return Err(stop),
         }

@@ -10,6 +10,7 @@
 mod frame;
 mod frames;
 mod request;
+mod shared_work;
 mod top;
 mod work;
 

@@ -1,11 +1,12 @@
 //! The one public call of the program.
 
-ghost use Rattle.std.specs.Prelude.{◌≡◌, ◌≤◌, ◌⊎◌, ℕ, List, length, Some, None, IsSome, true};
+ghost use Rattle.std.specs.Prelude.{◌≡◌, ◌≤◌, ◌⊎◌, ℕ, List, length, Some, None, IfOk, IsSome, true};
 ghost use Rattle.all_classes.specs.Headlines.{is_compressing, HasHeadlines};
 ghost use Rattle.all_classes.specs.Meets.{RunMeets};
 ghost use Rattle.all_classes.specs.Progress.{TellsFrames};
 ghost use Rattle.all_classes.specs.Requests.{file_of, first_of, last_of, request_of};
 ghost use Rattle.all_classes.specs.Tellings.{IsAnswer};
+ghost use Rattle.all_classes.specs.Work.{IsWorkOf};
 ghost use Rattle.all_classes.specs.declared.request.Request.{Request};
 ghost use Rattle.bonsai_top.specs.Words.{bytes_of_words};
 ghost use Rattle.cfg_ast.specs.meaning.Classes.{classes_of};
@@ -14,6 +15,9 @@ ghost use Rattle.io_kit.specs.Ends.{Rose};
 
 use crate::frames::{Stop, put_frames};
 use crate::request::{Request, file_word, read_words};
+use crate::shared_work::SharedWork;
+use base_kit::{List, NoMemory};
+use cfg_ast::DestClass;
 use cfg_check::Checked;
 use class_counts::few_classes;
 use dest_classes::classes;
@@ -31,6 +35,19 @@ fn ending_of(done: bool) -> Ending
     if done { Ending::Done } else { Ending::NotAll }
 }
 
+// The classes of a network, and what they share.
+fn classes_and_work(
+    alloc: Global,
+    checked: &Checked,
+) -> Result<(List<DestClass>, SharedWork), NoMemory>
+    ensures classes { IfOk result (λ made. made.0 ≡ classes_of checked.now.network) }
+    ensures work { IfOk result (λ made. IsWorkOf checked.now.network made.1) }
+{
+    let classes = classes(alloc, checked)?;
+    let work = SharedWork::of(alloc, checked)?;
+    Ok((classes, work))
+}
+
 // Writes the frames of the classes that are asked, and says why if these are not all.
 fn tell_frames<O: Sink, E: Sink>(
     alloc: Global,
@@ -46,7 +63,7 @@ fn tell_frames<O: Sink, E: Sink>(
     ensures err_later { E.faults err.old ≤ E.faults err.new }
 {
     few_classes();
-    let Ok(classes) = classes(alloc, checked) else {
+    let Ok((classes, mut work)) = classes_and_work(alloc, checked) else {
         return tell_no_memory(err);
     };
     let from = request.asked.first();
@@ -58,6 +75,7 @@ fn tell_frames<O: Sink, E: Sink>(
         classes.as_slice(),
         from,
         to,
+        &mut work,
         out,
     ) {
         Ok(done) => ending_of(done),

@@ -33,16 +33,24 @@ fn text_of(
     Ok(text)
 }
 
+/// Writes a certificate of the coarsest partition of a class, whose problem this is.
+pub fn answer_of(alloc: Global, checked: &Checked, class: &DestClass, problem: &Srp) -> Reply
+    requires { IsBuiltFor checked.now.network class.now problem.now }
+    ensures { Answers result (IsCertifyOf checked.now.network class.now) ⊥ ⊥ }
+{
+    match text_of(alloc, checked, class, problem) {
+        Ok(bytes) => Reply::Output(bytes),
+        Err(NoMemory) => Reply::NoMemory,
+    }
+}
+
 /// Writes a certificate of the coarsest partition of a class.
 pub fn answer(alloc: Global, checked: &Checked, class: &DestClass) -> Reply
     requires { Contains (classes_of checked.now.network) class.now }
     ensures { Answers result (IsCertifyOf checked.now.network class.now) ⊥ ⊥ }
 {
-    let Ok(problem) = problem_of_class(alloc, checked, class) else {
-        return Reply::NoMemory;
-    };
-    match text_of(alloc, checked, class, &problem) {
-        Ok(bytes) => Reply::Output(bytes),
+    match problem_of_class(alloc, checked, class) {
+        Ok(problem) => answer_of(alloc, checked, class, &problem),
         Err(NoMemory) => Reply::NoMemory,
     }
 }

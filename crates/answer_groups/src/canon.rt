@@ -5,7 +5,8 @@ ghost use Rattle.cfg_ast.specs.meaning.Classes.{classes_of};
 ghost use Rattle.answer_groups.specs.CanonText.{no_canon, IsCanonicalFor, IsWithoutCanon, IsCanonOf};
 ghost use Rattle.answer_kit.specs.Outcome.{refused};
 ghost use Rattle.answer_kit.specs.Replies.{Answers, Only};
-ghost use Rattle.driver.specs.Steps.{IsSharedOf};
+ghost use Rattle.cfg_ast.specs.meaning.PolicyFaults.{communities_of};
+ghost use Rattle.srp_build.specs.Built.{IsBuiltFor};
 
 use crate::emission::told;
 use answer_kit::{Reply, refuse, router_name};
@@ -13,6 +14,7 @@ use base_kit::Edge;
 use canon_policy::{CanonSrpRefusal, canon_srp};
 use cfg_ast::DestClass;
 use cfg_check::Checked;
+use dd_core::Store;
 use driver::{Shared, emitted_of};
 use srp_core::Srp;
 use std::alloc::Global;
@@ -27,23 +29,23 @@ fn no_canon(alloc: Global, problem: &Srp, edge: &Edge) -> Reply
 }
 
 // The problem of a class with canonical acts, or the reply to tell if an edge has no canonical lists.
-fn canonical_over(
+fn canonical_of(
     alloc: Global,
     checked: &Checked,
     class: &DestClass,
-    shared: &mut Shared,
+    problem: Srp,
+    store: &mut Store,
 ) -> Result<Srp, Reply>
-    requires shared { IsSharedOf checked.now.network shared.old }
     requires class { Contains (classes_of checked.now.network) class.now }
+    requires built { IsBuiltFor checked.now.network class.now problem }
+    requires universe { store.old.universe ≡ communities_of checked.now.network }
+    ensures universe { store.new.universe ≡ communities_of checked.now.network }
     ensures problem { IfOk result (IsCanonicalFor checked.now.network class.now) }
     ensures none { IfErr result (λ reply. Answers reply (IsWithoutCanon checked.now.network class.now) ⊥ ⊥) }
 {
     given_laws::given_is_well_formed();
     compress_laws::laws::built_fits();
-    let Ok(problem) = shared.problem(alloc, checked, class) else {
-        return Err(Reply::NoMemory);
-    };
-    match canon_srp(alloc, &problem, &mut shared.store) {
+    match canon_srp(alloc, &problem, store) {
         Ok(canonical) => {
             let _known = canonical.count();
             Ok(canonical)
@@ -56,16 +58,28 @@ fn canonical_over(
     }
 }
 
-// The same, if no other class is needed.
-fn canonical_for(alloc: Global, checked: &Checked, class: &DestClass) -> Result<Srp, Reply>
-    requires { Contains (classes_of checked.now.network) class.now }
-    ensures problem { IfOk result (IsCanonicalFor checked.now.network class.now) }
-    ensures none { IfErr result (λ reply. Answers reply (IsWithoutCanon checked.now.network class.now) ⊥ ⊥) }
+/// The same as `answer`, for a class whose problem this is. The store's universe has the communities that
+/// the network names. It stays, and the store may grow.
+pub fn answer_of(
+    alloc: Global,
+    checked: &Checked,
+    class: &DestClass,
+    problem: Srp,
+    store: &mut Store,
+) -> Reply
+    requires class { Contains (classes_of checked.now.network) class.now }
+    requires built { IsBuiltFor checked.now.network class.now problem }
+    requires universe { store.old.universe ≡ communities_of checked.now.network }
+    ensures universe { store.new.universe ≡ communities_of checked.now.network }
+    ensures answers { Answers result (IsCanonOf checked.now.network class.now) ⊥ ⊥ }
 {
-    let Ok(mut shared) = Shared::of(alloc, checked) else {
-        return Err(Reply::NoMemory);
-    };
-    canonical_over(alloc, checked, class, &mut shared)
+    match canonical_of(alloc, checked, class, problem, store) {
+        Ok(canonical) => {
+            let emitted = emitted_of(alloc, checked, class, canonical);
+            told(alloc, emitted)
+        }
+        Err(reply) => reply,
+    }
 }
 
 /// The network of the groups of a class, as configurations with canonical maps, or the names of the importer
@@ -74,11 +88,11 @@ pub fn answer(alloc: Global, checked: &Checked, class: &DestClass) -> Reply
     requires { Contains (classes_of checked.now.network) class.now }
     ensures { Answers result (IsCanonOf checked.now.network class.now) ⊥ ⊥ }
 {
-    match canonical_for(alloc, checked, class) {
-        Ok(problem) => {
-            let emitted = emitted_of(alloc, checked, class, problem);
-            told(alloc, emitted)
-        }
-        Err(reply) => reply,
-    }
+    let Ok(mut shared) = Shared::of(alloc, checked) else {
+        return Reply::NoMemory;
+    };
+    let Ok(problem) = shared.problem(alloc, checked, class) else {
+        return Reply::NoMemory;
+    };
+    answer_of(alloc, checked, class, problem, &mut shared.store)
 }

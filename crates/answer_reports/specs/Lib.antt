@@ -1,3 +1,4 @@
+pub mod NetworkParts
 pub mod OneAnswer
 pub mod ReportAnswers
 pub mod Summaries

@@ -15,6 +15,7 @@ loop-number-init g c =
       above = omega arith;
       below = omega arith;
       later = omega arith;
+      work = c.requires.work;
       put = subst (λ (k : ℕ). HasPut A from k true old old) (sym zero) (none_put A from old);
     }
 
@@ -25,6 +26,7 @@ loop-number-preserved g c =
       above = omega (arith, inv.above);
       below = omega (arith, inv.above, inv.below, c.loop-number-test.true);
       later = omega (arith, inv.later, c.in-Ok.ensures.later);
+      work = c.put_class.ensures.work;
       put = put_more (IsAnswer c.args.command c.args.checked.now.network) c.args.from c.loop-number.number c.loop-number.done c.in-Ok.this
           c.both-done.result _ _ _ inv.above inv.put c.in-Ok.ensures.put c.both-done.ensures;
     }
