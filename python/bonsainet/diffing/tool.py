@@ -3,70 +3,87 @@ from __future__ import annotations
 
 import argparse
 import json
-import os
-import sys
 
-from bonsainet.cli.command_line import Refused, parser, read_input
+from bonsainet.cli.command_line import Refused, parser, write_output
 from bonsainet.diffing.documents import document
+from bonsainet.diffing.reason_words import reason_lines
+from bonsainet.diffing.reasons import reasons_of
+from bonsainet.diffing.shown import show
+from bonsainet.diffing.sides import beside, networks_at, places, say_changes
 from bonsainet.diffing.words import lines
-from bonsainet.library import BonsaiError, ImportRefused, Network, diff
+from bonsainet.library import BonsaiError, ImportRefused, diff
 from bonsainet.library.calls import ASK, program
 
 NAME = "bonsai-diff"
 DIFFERS = 8
-PURPOSE = """Says which routes change from one network to another, by prefix, with what each router may hold before and after.
+PURPOSE = """Says which routes change from one network to another, by prefix, with what each router may hold before and after,
+and how the networks differ.
 
-OLD and NEW are folders of running configurations, or texts that Bonsai reads. The routes are those of every stable solution, as
-the proved programs give them; an edit that changes no route is not named."""
+OLD and NEW are folders of running configurations, or texts that Bonsai reads. REVISION:PATH is a folder or a text that a Git
+repository has at a revision; OLD..NEW are two revisions, and FOLDER is then a folder below the one in which you are. With
+OLD...NEW the first is the commit at which the two parted. Nothing of the repository's work tree is read or touched.
+
+The routes are those of every stable solution, as the proved programs give them; an edit that changes no route is not among
+them. Below the routes are the differences of the networks: links, costs, origins and numbers, edits of policies by the acts
+that they change, and compressed networks of another form."""
 
 
 def words() -> argparse.ArgumentParser:
     """The words of the command line."""
     made = parser(NAME, PURPOSE, ((str(DIFFERS), "Routes change."),))
-    made.add_argument("old", metavar="OLD", help="the network before: a folder, or a text")
-    made.add_argument("new", metavar="NEW", help="the network after: a folder, or a text; - for standard input")
+    made.usage = "bonsai-diff [OPTION..] OLD NEW, or bonsai-diff [OPTION..] OLD..NEW [FOLDER]"
+    made.add_argument("old", metavar="OLD", help="the network before: a folder, a text, REVISION:PATH, or OLD..NEW")
     made.add_argument(
-        "--decisions", metavar="FILE", help="the decisions for the import of NEW, and of OLD where it has no others"
+        "new", metavar="NEW", nargs="?", help="the network after; - for standard input. With OLD..NEW a folder"
+    )
+    made.add_argument(
+        "--decisions",
+        metavar="FILE",
+        help="the decisions for the import of NEW, and of OLD where it has no others: a file, or REVISION:FILE. With OLD..NEW "
+        "a relative name is a file of each revision",
     )
     made.add_argument("--old-decisions", metavar="FILE", help="the decisions for the import of OLD")
     made.add_argument(
         "--own-as", action="store_true", help="give each router of a shared AS number a number of its own"
     )
+    made.add_argument(
+        "--long", action="store_true", help="name all routers, prefixes and changes, however many they are"
+    )
     made.add_argument("--json", action="store_true", help="write the difference as one JSON document")
+    made.add_argument(
+        "--html",
+        metavar="FILE",
+        help="also write one page with pictures of both sides, in which what changes is coloured",
+    )
     return made
 
 
 def main(argv: list[str] | None = None) -> int:
     """Runs the tool: 0 where no route changes, 8 where one does."""
-    given = words().parse_args(argv)
+    made = words()
+    given = made.parse_args(argv)
+    sides = places(given.old, given.new)
+    if sides is None:
+        made.error("NEW is missing: give two networks, or two revisions as OLD..NEW")
+    decisions = given.old_decisions or given.decisions, given.decisions
     try:
-        old = network_of(given.old, given.old_decisions or given.decisions, given.own_as)
-        new = network_of(given.new, given.decisions, given.own_as)
-        found = diff(old, new)
+        first, second = (beside(word, side) for side, word in zip(sides, decisions))
+        old, new = networks_at(sides, (first, second), given.own_as)
+        say_changes(NAME, old)
+        say_changes(NAME, new)
+        found, reasons = diff(old, new), reasons_of(old, new)
     except ImportRefused as refused:
         raise Refused(
             str(refused), [f"  {one.place}: {one.text}: {one.reason}" for one in refused.report.refused]
         ) from None
     except BonsaiError as fault:
         raise Refused(str(fault)) from None
+    if given.html:
+        from bonsainet.diffing.page import page
+
+        write_output(given.html, page(old, new, found, reasons, program(ASK).identity).encode())
     if given.json:
-        print(json.dumps(document(found, program(ASK).identity), indent=1))
+        print(json.dumps(document(found, reasons, program(ASK).identity), indent=1))
     else:
-        print("\n".join(lines(found)))
+        show([*lines(found, given.long), *reason_lines(reasons, given.long)])
     return DIFFERS if found else 0
-
-
-def network_of(name: str, decisions: str | None, own_as: bool) -> Network:
-    """The network of a folder or a text. What an import of it changed is said in one line on standard error."""
-    if name != "-" and os.path.isdir(name):
-        network = Network.from_folder(name, decisions, own_as)
-        assert network.report is not None
-        changed = len(network.report.changes)
-        print(
-            f"{NAME}: {name}: {changed} lines are written otherwise or left out; bonsai-import reports each",
-            file=sys.stderr,
-        )
-        return network
-    return Network.from_text(
-        read_input(name).decode("ascii", "surrogateescape"), "standard input" if name == "-" else name
-    )

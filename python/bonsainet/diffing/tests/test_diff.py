@@ -11,8 +11,11 @@ import pytest
 import bonsainet
 from bonsainet.ask.program import TOP
 from bonsainet.diffing.documents import document
-from bonsainet.diffing.words import lines
+from bonsainet.diffing.reasons import reasons_of
+from bonsainet.diffing.words import change_lines, lines, listed
 from bonsainet.library.calls import ASK, program
+from bonsainet.library.changes import Change, Kind
+from bonsainet.library.routes import Aspect, Route
 from bonsainet.tests.asking import tool
 
 INPUTS = TOP / "examples" / "inputs"
@@ -32,8 +35,9 @@ def edited(text: str, old: str, new: str, router: str = "") -> str:
 
 def said(old: str, new: str) -> list[str]:
     """The lines of the difference. Its document fits the schema, and says whether anything changes."""
-    found = bonsainet.diff(bonsainet.Network.from_text(old), bonsainet.Network.from_text(new))
-    made = document(found, program(ASK).identity)
+    before, after = bonsainet.Network.from_text(old, "old"), bonsainet.Network.from_text(new, "new")
+    found = bonsainet.diff(before, after)
+    made = document(found, reasons_of(before, after), program(ASK).identity)
     jsonschema.validate(made, SCHEMA)
     assert bool(made["changed"]) == bool(found)
     return list(lines(found))
@@ -61,14 +65,24 @@ def test_an_edit_without_effect(old: str, new: str) -> None:
 
 def test_a_cost() -> None:
     found = said(CAMPUS, CAMPUS.replace(" ip ospf cost 5\n", " ip ospf cost 7\n"))
-    assert "  changed access2: cost 7 to dist1 (GigabitEthernet0/1) -> cost 9 to dist1 (GigabitEthernet0/1)" in found
+    assert found == [
+        "10.0.1.8/30",
+        "  changed core1, core2, dist1: cost 6 -> 8",
+        "  changed dist2, access1: cost 5 -> 7",
+        "  changed access2: cost 7 -> 9",
+        "10.0.1.12/30",
+        "  changed core1, core2, dist1: cost 6 -> 8",
+        "  changed dist2, access2: cost 5 -> 7",
+        "  changed access1: cost 7 -> 9",
+        "2 prefixes change, 17 stay as they are",
+    ]
     assert found[-1] == "2 prefixes change, 17 stay as they are"
 
 
 def test_there_and_back() -> None:
     other = CAMPUS.replace(" ip ospf cost 5\n", " ip ospf cost 7\n")
     there, back = said(CAMPUS, other), said(other, CAMPUS)
-    turned = [re.sub(r"^(  changed [^:]*: )(.*) -> (.*)$", r"\1\3 -> \2", line) for line in there]
+    turned = [re.sub(r"^(  changed [^:]*: cost )(.*) -> (.*)$", r"\1\3 -> \2", line) for line in there]
     assert sorted(turned) == sorted(back)
 
 
@@ -96,8 +110,10 @@ def test_a_session_that_is_shut() -> None:
         "  stable solutions: 2 before, 1 after",
         "  changed x: preference 100 length 1 to d (GigabitEthernet0/0) or preference 200 length 2 to y (GigabitEthernet0/1)"
         " -> preference 100 length 1 to d (GigabitEthernet0/0)",
+        "    in all solutions before: a route",
         "  changed y: preference 100 length 1 to d (GigabitEthernet0/0) or preference 200 length 2 to x (GigabitEthernet0/1)"
         " -> preference 100 length 1 to d (GigabitEthernet0/0)",
+        "    in all solutions before: a route",
         "1 prefix changes, 0 stay as they are",
     ]
 
@@ -152,16 +168,25 @@ def test_more_solutions_than_are_compared() -> None:
     )
     many = origin + "".join(pieces)
     found = said(DISAGREE, many)
-    assert "  stable solutions: 2 before, 128 after" in found
-    assert "  more than 64 stable solutions: the routes are not compared" in found
+    assert "  stable solutions: 2 before, more than 64 after" in found
+    assert "  the first 64 stable solutions are compared, and no tie is looked for in more" in found
+    assert "  lost x, y: preference 100 length 1 to d (GigabitEthernet0/0) or" in "\n".join(found).replace(
+        "lost x:", "lost x, y:"
+    )
     assert found[-1] == "1 prefix changes, 0 stay as they are"
+    worded = many.replace("hostname d\n", "hostname d\nip prefix-list UNUSED seq 5 permit 0.0.0.0/0\n")
+    assert said(many, worded) == [
+        "0 prefixes change, 1 stay as they are",
+        "more than 64 stable solutions, with the same labels: 10.0.0.0/24",
+        "  next hops are compared in the first 64",
+    ]
 
 
 def test_the_tool(tmp_path: Path) -> None:
     (tmp_path / "new.cfg").write_text(CAMPUS.replace(" ip ospf cost 5\n", " ip ospf cost 7\n"))
     ran = tool("bonsai-diff", INPUTS / "campus.cfg", tmp_path / "new.cfg")
     assert (ran.returncode, ran.stderr) == (8, b"")
-    assert ran.stdout.endswith(b"2 prefixes change, 17 stay as they are\n")
+    assert b"2 prefixes change, 17 stay as they are\nlinks, origins and numbers that differ\n  cost of " in ran.stdout
     same = tool("bonsai-diff", INPUTS / "campus.cfg", "-", raw=CAMPUS.encode())
     assert (same.returncode, same.stdout) == (0, f"{NOTHING[0]}\n".encode())
     written = tool("bonsai-diff", "--json", INPUTS / "campus.cfg", tmp_path / "new.cfg")
@@ -178,3 +203,16 @@ def test_folders_and_refusals(tmp_path: Path) -> None:
     (tmp_path / "bad.cfg").write_text("hostname a\nnonsense\n")
     bad = tool("bonsai-diff", INPUTS / "campus.cfg", tmp_path / "bad.cfg")
     assert bad.returncode == 1 and b"line 2: " in bad.stderr
+
+
+def test_many_names_are_counted() -> None:
+    names = tuple(f"r{number}" for number in range(20))
+    assert listed(names, False) == "r0, r1, r2, r3, r4, r5, r6, r7 and 12 more"
+    assert listed(names, True).endswith(", r19")
+    assert listed(names[:9], False).endswith(", r8")
+
+
+def test_next_hops_that_go_and_come() -> None:
+    before, after = (tuple((name, ()) for name in names) for names in ("abc", "abd"))
+    change = Change(Kind.CHANGED, ("r",), frozenset([Route(before)]), frozenset([Route(after)]), (Aspect.NEXT_HOPS,))
+    assert list(change_lines(change)) == ["changed r: to 2 as before, no more c, also d"]
