@@ -2,7 +2,9 @@
 from __future__ import annotations
 
 import argparse
+from collections.abc import Iterable, Sequence
 from ipaddress import IPv4Network
+from typing import Protocol, TypeVar
 
 from bonsainet.cli.command_line import Refused
 from bonsainet.ask.program import Class, NotAnswered, Program, Status, classes_of
@@ -67,16 +69,41 @@ def class_of(classes: list[Class], wanted: Wanted, name: str) -> Class:
     return classes[wanted - 1]
 
 
+def chosen(classes: list[Class], wanted: Sequence[Wanted] | None, name: str) -> list[int]:
+    """The numbers of the classes that are asked for, ascending: all, where none is named. Refused where the text of this
+    name has no such class."""
+    if not wanted:
+        return [one.number for one in classes]
+    return sorted({class_of(classes, one, name).number for one in wanted})
+
+
 def _class_with(classes: list[Class], wanted: IPv4Network, name: str) -> Class:
     """The class of a prefix, or around an address."""
-    prefixes = [(IPv4Network(prefix), one) for one in classes for prefix in one.prefixes]
     is_address = wanted.prefixlen == wanted.max_prefixlen
+    found = class_with(classes, wanted, is_address)
+    if found is None:
+        told = f"a prefix around {wanted.network_address}" if is_address else f"the prefix {wanted}"
+        raise Refused(f"{name}: no class has {told}")
+    return found
+
+
+class HasPrefixes(Protocol):
+    """What has prefixes."""
+
+    @property
+    def prefixes(self) -> tuple[str, ...]:
+        """The prefixes."""
+
+
+Found = TypeVar("Found", bound=HasPrefixes)
+
+
+def class_with(classes: Iterable[Found], wanted: IPv4Network, is_address: bool) -> Found | None:
+    """The class that has a prefix, or of an address the one with the longest prefix around it."""
+    prefixes = ((IPv4Network(prefix), one) for one in classes for prefix in one.prefixes)
     around = [
         (prefix.prefixlen, one)
         for prefix, one in prefixes
         if prefix == wanted or is_address and wanted.subnet_of(prefix)
     ]
-    if not around:
-        told = f"a prefix around {wanted.network_address}" if is_address else f"the prefix {wanted}"
-        raise Refused(f"{name}: no class has {told}")
-    return max(around, key=lambda found: found[0])[1]
+    return max(around, key=lambda found: found[0])[1] if around else None

@@ -19,6 +19,6 @@ def native(program: Program) -> Path:
 
 
 @functools.cache
-def program_file() -> str:
-    """The path of the file of the program that tests and tools ask."""
-    return str(native(Program()))
+def program_file(name: str = "bonsai") -> str:
+    """The path of the file of the program of a name that tests and tools ask."""
+    return str(native(Program(name=name)))

@@ -15,13 +15,21 @@ import re
 import shutil
 import subprocess
 import sys
+import tempfile
+from collections.abc import Collection, Iterable, Iterator, Mapping
+from itertools import takewhile
 from pathlib import Path
-from typing import BinaryIO
+from typing import IO, BinaryIO
 
+from bonsainet.ask.running import of_this_thread, ran
+from bonsainet.ask.shares import side_by_side
 from bonsainet.ask.where import Identity, identity_of, is_file_of_one, named_by, without_notices
 
 TOP = Path(__file__).resolve().parents[3]
 LOWEST = 3
+
+
+BONSAI, ASK, ALL = "bonsai", "bonsai-ask", "bonsai-all"
 
 
 class Status(enum.IntEnum):
@@ -35,7 +43,13 @@ class Status(enum.IntEnum):
     MEMORY = 5
     NOT_STABLE = 6
     NO_WORDS = 7
+    NOT_ALL = 8
     NO_PROGRAM = 9
+
+
+# (of bonsai-ask and bonsai-all: the work is done, and an answer is not `yes`, or a class was refused)
+NOT_ALL = Status.NOT_ALL
+IS_DONE = (Status.DONE, NOT_ALL)
 
 
 @dataclasses.dataclass(frozen=True)
@@ -60,8 +74,8 @@ class Answer:
 class NotAnswered(Exception):
     """The program refused or failed where a tool needs its answer. `answer` is what it said."""
 
-    def __init__(self, answer: Answer, command: str) -> None:
-        super().__init__(f"bonsai {command}: {answer.reason or f'status {answer.status}'}")
+    def __init__(self, answer: Answer, command: str, name: str = BONSAI) -> None:
+        super().__init__(f"{name} {command}: {answer.reason or f'status {answer.status}'}")
         self.answer = answer
 
 
@@ -111,7 +125,7 @@ class Program:
     The launcher is asked once, and says on standard error if that program is not proved.
     """
 
-    def __init__(self, path: str | None = None, name: str = "bonsai") -> None:
+    def __init__(self, path: str | None = None, name: str = BONSAI) -> None:
         here, variable = TOP / name, f"{name.upper().replace('-', '_')}_PROGRAM"
         self.launcher = None if path else str(here) if here.is_file() else shutil.which(name)
         found = path or (None if self.launcher else os.environ.get(variable))
@@ -136,23 +150,43 @@ class Program:
         return Path(self.path) if is_file_of_one(self.path) else None
 
     def ask(self, *words: str, texts: dict[str, str | bytes] | None = None, seconds: float | None = None) -> Answer:
-        """Runs a command. A word that is a key of `texts` names a file with that text, in memory and made for this call alone."""
+        """Runs a command. The first word that is a key of `texts` names a file with that text, in memory and made for this
+        call alone; further ones are words, as a router may have the name. TimeoutExpired after so many seconds."""
         with contextlib.ExitStack() as room:
             files = {name: room.enter_context(_in_memory(text)) for name, text in (texts or {}).items()}
             places = {name: f"/proc/self/fd/{file.fileno()}" for name, file in files.items()}
-            ran = subprocess.run(
-                [self.path, *(places.get(word, word) for word in words)],
-                stdin=subprocess.DEVNULL,
-                stdout=subprocess.PIPE,
-                stderr=subprocess.PIPE,
-                pass_fds=[file.fileno() for file in files.values()],
-                timeout=seconds,
-                check=False,
-            )
-            err = without_notices(ran.stderr)
+            asked = [self.path, *with_places(words, places)]
+            done = ran(asked, [file.fileno() for file in files.values()], seconds)
+            err = without_notices(done.stderr)
             for name, place in sorted(places.items(), key=lambda item: -len(item[1])):
                 err = err.replace(place.encode(), name.encode())
-            return Answer(ran.returncode, ran.stdout, err)
+            return Answer(done.returncode, done.stdout, err)
+
+    @contextlib.contextmanager
+    def output(
+        self, *words: str, texts: dict[str, str | bytes] | None = None, done: Collection[int] = (Status.DONE,)
+    ) -> Iterator[IO[bytes]]:
+        """The output of a command while it is written; words are as for `ask`. The command is ended where it is not read to its end. NotAnswered
+        where it ends with a status that is not in `done`."""
+        with contextlib.ExitStack() as room:
+            files = {name: room.enter_context(_in_memory(text)) for name, text in (texts or {}).items()}
+            places = {name: f"/proc/self/fd/{file.fileno()}" for name, file in files.items()}
+            told = room.enter_context(tempfile.TemporaryFile())
+            process = subprocess.Popen(
+                [self.path, *with_places(words, places)],
+                stdin=subprocess.DEVNULL,
+                stdout=subprocess.PIPE,
+                stderr=told,
+                pass_fds=[file.fileno() for file in files.values()],
+            )
+            room.enter_context(process)
+            room.enter_context(of_this_thread().holding(process.kill))
+            room.callback(process.kill)
+            assert process.stdout
+            yield process.stdout
+            if not process.stdout.read(1) and process.wait() not in done:
+                told.seek(0)
+                raise NotAnswered(Answer(process.returncode, b"", without_notices(told.read())), " ".join(words[:1]))
 
     def done(self, *words: str, texts: dict[str, str | bytes] | None = None) -> str:
         """The output of a command that must end with Done; else NotAnswered."""
@@ -167,10 +201,10 @@ class Program:
         answer = self.ask("classes", "F", texts={"F": text})
         if answer.status == Status.DONE:
             return None
-        found = re.fullmatch(r"refused: line (\d+): (\w+)", answer.reason)
-        if answer.status != Status.REFUSED or not found:
+        found = refusal_of(answer)
+        if found is None:
             raise NotAnswered(answer, "classes")
-        return Refusal(int(found[1]), found[2])
+        return found
 
     def classes(self, text: str | bytes) -> list[Class]:
         """The classes of a text."""
@@ -194,6 +228,28 @@ class Program:
         return sizes_of(self.done("summary", "F", texts={"F": text}))
 
 
+@functools.cache
+def named(name: str) -> Program:
+    """The program of a name, which is found once, and not by each thread that asks it."""
+    made = Program(name=name)
+    assert made.path
+    return made
+
+
+def identities(*names: str) -> dict[str, Identity]:
+    """Which programs of these names answer."""
+    return dict(zip(names, side_by_side(lambda name: named(name).identity, names)))
+
+
+def with_places(words: Iterable[str], places: Mapping[str, str]) -> list[str]:
+    """The words with the place of each text in the place of its key. Only the first word that is a key is it: in all
+    programs the files stand before whatever has the name of a router."""
+    made, left = [], dict(places)
+    for word in words:
+        made.append(left.pop(word, word))
+    return made
+
+
 def _in_memory(text: str | bytes) -> BinaryIO:
     """A file without a place on disk, so that nothing stays where a tool is killed. Its number is none of a standard stream, be that closed."""
     first = os.memfd_create("bonsai")
@@ -202,6 +258,12 @@ def _in_memory(text: str | bytes) -> BinaryIO:
     file.write(text.encode("utf-8", "surrogateescape") if isinstance(text, str) else text)
     file.flush()
     return file
+
+
+def refusal_of(answer: Answer) -> Refusal | None:
+    """The refusal at a line of a text, if an answer is one."""
+    found = re.fullmatch(r"refused: line (\d+): (\w+)", answer.reason)
+    return Refusal(int(found[1]), found[2]) if found and answer.status == Status.REFUSED else None
 
 
 def classes_of(text: str) -> list[Class]:
@@ -231,6 +293,13 @@ def groups_of(text: str) -> list[Group]:
             Group(int(head.split()[1]), "origin" in marks, "lone" in marks, tuple(map(sys.intern, members.split())))
         )
     return found
+
+
+def report_of(text: str) -> tuple[Size, list[Group]]:
+    """The sizes and the groups of a class that `report` wrote. The neighbours without a session stand behind them."""
+    first, _, rest = text.partition("\n")
+    groups = "".join(takewhile(lambda line: line.startswith("group "), rest.splitlines(keepends=True)))
+    return sizes_of(first)[0], groups_of(groups)
 
 
 def sizes_of(text: str) -> list[Size]:

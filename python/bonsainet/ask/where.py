@@ -3,10 +3,12 @@ from __future__ import annotations
 
 import dataclasses
 import hashlib
+import io
 import os
 import re
 import subprocess
 import sys
+from collections.abc import Mapping
 from pathlib import Path
 
 ELF = b"\x7fELF"
@@ -40,6 +42,12 @@ class Identity:
 def judged_by(program: Identity) -> str:
     """The line that a report for a person has of the program that answered."""
     return f"Judged by {program.told}"
+
+
+def judged_by_each(programs: Mapping[str, Identity]) -> list[str]:
+    """The lines that a report for a person has of the programs that answered, by their names: the first is `bonsai`."""
+    first, *others = programs.items()
+    return [judged_by(first[1]), *(f"Judged by {name}, {program.told}" for name, program in others)]
 
 
 def is_file_of_one(path: str | Path) -> bool:
@@ -82,11 +90,20 @@ def named_by(launcher: str) -> str:
         for line in asked.stderr:
             text = line.decode("utf-8", "backslashreplace")
             if NOTICE.match(line):
-                sys.stderr.write(text)
-                sys.stderr.flush()
+                _note(text)
             else:
                 failure += text
         named = os.fsdecode(asked.stdout.read())
     if asked.returncode or not named.endswith("\n"):
         raise NoProgram(failure.strip() or f"{launcher}: names no program")
     return named[:-1]
+
+
+def _note(text: str) -> None:
+    """Writes a notice to standard error. Where that does not take it, the answer is as good."""
+    try:
+        os.write(sys.stderr.fileno(), text.encode("utf-8", "surrogateescape"))
+    except io.UnsupportedOperation:
+        sys.stderr.write(text)
+    except OSError:
+        pass

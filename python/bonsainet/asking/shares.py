@@ -1,24 +1,25 @@
 """All classes shared out to processors, by ranges of their numbers. What is written is what one call would write."""
 from __future__ import annotations
 
-import concurrent.futures
-import contextlib
-import sys
-import threading
-from collections.abc import Callable, Iterator
+import dataclasses
+import re
+import subprocess
+import time
+from collections.abc import Callable, Iterator, Sequence
 
-from bonsainet.ask.program import Answer, Program, Status
-from bonsainet.asking.calls import IS_DONE, NOT_ALL, Asked, Call
+from bonsainet.ask.program import ASK, IS_DONE, NOT_ALL, Answer, NotAnswered, Status, named
+from bonsainet.ask.shares import processors, ranges, side_by_side
+from bonsainet.asking.calls import LIST, QUESTIONS, TEXT, Asked, Call
+from bonsainet.asking.reports import Part, Report, reports_of
+from bonsainet.cli.progress import progress
 
 # (below so many classes one process is as fast)
 FEW_CLASSES = 64
 RANGES_EACH = 4
-
-
-def ranges(count: int, jobs: int) -> list[tuple[int, int]]:
-    """The numbers from 1 to `count` as ranges of about equal length, several for each job."""
-    size = max(1, -(-count // (jobs * RANGES_EACH)))
-    return [(first, min(first + size - 1, count)) for first in range(1, count + 1, size)]
+# (true in all labels, so the program says nothing but whether there are some, and whether they are tied)
+ALWAYS_TRUE = ("hops", "999999999", "*")
+# (with a line for each, the file of questions that counts classes is not too long)
+MOST_CLASSES = 1_000_000
 
 
 def is_shared(call: Call, jobs: int) -> bool:
@@ -26,53 +27,94 @@ def is_shared(call: Call, jobs: int) -> bool:
     return call.classes == "*" and jobs > 1
 
 
-def shared(asked: Asked, call: Call, jobs: int, write: Callable[[bytes], None], count: int | None = None) -> Answer:
+def class_count(asked: Asked) -> int | None:
+    """How many classes the text has: the program refuses a file of questions at the first one about a class that is not
+    there, and answers none of them. None where it says something else."""
+    most = min(asked.text.count(b"\n") + 1, MOST_CLASSES)
+    probe = "".join(f"{number} count\n" for number in (*range(1, most + 1), 0))
+    answer = dataclasses.replace(asked, questions=probe.encode()).ask([TEXT, QUESTIONS, LIST])
+    found = re.fullmatch(r"refused: questions line (\d+): NoClass", answer.reason)
+    return int(found[1]) - 1 if found and int(found[1]) <= most else None
+
+
+def shared(asked: Asked, call: Call, jobs: int, write: Callable[[bytes], None]) -> Answer:
     """Asks for all classes by so many processes, and hands their outputs to `write` in order, each as soon as those before
-    it are there. The answer has the status and the line on standard error alone. `count` is how many classes the text has,
-    where that is known."""
-    if call.classes != "*":
-        count = 1
-    elif count is None:
-        count = len(Program().classes(asked.text))
-    if count <= FEW_CLASSES:
-        answer = asked.program.ask(*call.words(call.task), texts=asked.texts)
+    it are there. The answer has the status and the line on standard error alone. One process answers where there are few
+    classes, or a fault."""
+    count = class_count(asked)
+    if count is None or count <= FEW_CLASSES:
+        answer = asked.ask(call.words(call.task))
         write(answer.out)
-        return Answer(answer.status, b"", answer.err)
-    parts = ranges(count, jobs)
-    status = int(Status.DONE)
-    with _workers(jobs) as pool, _progress(count) as advance:
-        words = [call.words(call.task, f"{first}-{last}") for first, last in parts]
-        for (first, last), answer in zip(
-            parts, pool.map(lambda one: asked.program.ask(*one, texts=asked.texts), words)
-        ):
+        return answer
+    parts, status = ranges(range(1, count + 1), jobs * RANGES_EACH), int(Status.DONE)
+    answers = side_by_side(lambda part: asked.ask(call.words(call.task, _word(part))), parts, jobs)
+    with progress("classes", count) as advance:
+        for (first, last), answer in zip(parts, answers):
             write(answer.out)
             advance(last - first + 1)
             if answer.status not in IS_DONE:
-                pool.shutdown(wait=False, cancel_futures=True)
                 return Answer(answer.status, b"", answer.err)
             status = max(status, answer.status)
     return Answer(NOT_ALL if status else Status.DONE, b"", b"")
 
 
-@contextlib.contextmanager
-def _workers(count: int) -> Iterator[concurrent.futures.ThreadPoolExecutor]:
-    """Threads that wait for a process each. Where the context fails, what has not begun is not begun any more."""
-    pool = concurrent.futures.ThreadPoolExecutor(count)
-    try:
-        yield pool
-    finally:
-        pool.shutdown(wait=False, cancel_futures=True)
+def parts_of(
+    text: str | bytes, task: Sequence[str], numbers: Sequence[int], seconds: float | None = None
+) -> Iterator[tuple[tuple[int, int], tuple[Part, ...] | None]]:
+    """What the program says to a task of these classes, ascending: for each range of them its parts, or none where it had
+    not answered when so many seconds were over. NotAnswered where it ends otherwise than by its work."""
+
+    def words(part: str) -> tuple[list[str], dict[str, str | bytes]]:
+        return ["F", part, *task], {"F": text}
+
+    for part, reports in _by_ranges(words, task[0], numbers, seconds):
+        yield part, None if reports is None else reports[0].parts
 
 
-@contextlib.contextmanager
-def _progress(count: int) -> Iterator[Callable[[int], None]]:
-    """Shows on a terminal how many classes are answered."""
-    if not sys.stderr.isatty() or threading.current_thread() is not threading.main_thread():
-        yield lambda more: None
-        return
-    import rich.console
-    import rich.progress
+def replies_of(
+    text: str | bytes, tasks: Sequence[Sequence[str]], numbers: Sequence[int], seconds: float | None = None
+) -> Iterator[tuple[tuple[int, int], list[tuple[Part, ...]] | None]]:
+    """The same of several tasks, for which a process reads the text once."""
 
-    with rich.progress.Progress(console=rich.console.Console(stderr=True), transient=True) as shown:
-        bar = shown.add_task("classes", total=count)
-        yield lambda more: shown.advance(bar, more)
+    def words(part: str) -> tuple[list[str], dict[str, str | bytes]]:
+        lines = "".join(f"{part} {' '.join(task)}\n" for task in tasks)
+        return ["F", "questions", "S"], {"F": text, "S": lines}
+
+    for part, reports in _by_ranges(words, "questions", numbers, seconds):
+        yield part, None if reports is None else [report.parts for report in reports]
+
+
+Words = Callable[[str], tuple[list[str], dict[str, str | bytes]]]
+
+
+def _by_ranges(
+    words: Words, name: str, numbers: Sequence[int], seconds: float | None
+) -> Iterator[tuple[tuple[int, int], list[Report] | None]]:
+    """What the program says to the words of each range of these classes."""
+    program = named(ASK)
+    until = None if seconds is None else time.monotonic() + seconds
+
+    def asked(part: tuple[int, int]) -> list[Report] | None:
+        left = None if until is None else until - time.monotonic()
+        if left is not None and left <= 0:
+            return None
+        given, texts = words(_word(part))
+        try:
+            answer = program.ask(*given, texts=texts, seconds=left)
+        except subprocess.TimeoutExpired:
+            return None
+        if answer.status not in IS_DONE:
+            raise NotAnswered(answer, f"{name} of classes {_word(part)}", ASK)
+        return reports_of(answer.text)
+
+    few = len(numbers) <= FEW_CLASSES // RANGES_EACH
+    asked_of = ranges(numbers, 1 if few else processors() * RANGES_EACH)
+    with progress("classes asked", len(numbers)) as advance:
+        for part, reports in zip(asked_of, side_by_side(asked, asked_of)):
+            advance(part[1] - part[0] + 1)
+            yield part, reports
+
+
+def _word(part: tuple[int, int]) -> str:
+    """A range as a word. It is one also where it has one class, so that solutions name theirs."""
+    return f"{part[0]}-{part[1]}"

@@ -2,19 +2,22 @@
 from __future__ import annotations
 
 import argparse
+import dataclasses
 import json
 import os
 import sys
+from collections.abc import Callable
 
-from bonsainet.ask.program import Answer, Program
+from bonsainet.ask.program import Answer, NotAnswered, Program, Status
 from bonsainet.asking.calls import FORWARDS, IS_DONE, QUESTIONS, SOLUTIONS, Asked, Call
 from bonsainet.asking.documents import document
 from bonsainet.asking.junit import junit
-from bonsainet.asking.questions import Question, questions_of
+from bonsainet.asking.questions import questions_of
 from bonsainet.asking.reports import ClassAnswer, Solution, forwards_of, reports_of
 from bonsainet.asking.shares import is_shared, shared
-from bonsainet.asking.ways import Interfaces, Nexts, chain_line, interfaces_of, longest_way, way_lines, way_to
-from bonsainet.cli.command_line import Refused, parser, read_input, shown, write_output
+from bonsainet.asking.ways import Nexts, carriers_of, chain_line, longest_way, way_lines, way_to
+from bonsainet.cli import streams
+from bonsainet.cli.command_line import Refused, parser, write_output
 from bonsainet.configs.network import read_network
 
 NAME = "bonsai-ask"
@@ -45,8 +48,9 @@ def words() -> argparse.ArgumentParser:
     made.add_argument(
         "--way",
         metavar="A",
-        help="without a question: the ways that traffic of the router A goes in each solution, with interfaces; behind the "
-        "answer no to hops, through or avoids: a way that makes it no, from A if there is one",
+        help="without a question: the ways that traffic of the router A goes in each solution, with interfaces: in OSPF "
+        "those that carry it; of several BGP sessions between two routers one or more carry it, and policies decide which; "
+        "behind the answer no to hops, through or avoids: a way that makes it no, from A if there is one",
     )
     made.add_argument(
         "--jobs",
@@ -63,6 +67,7 @@ def main(argv: list[str] | None = None) -> int:
     """Runs the tool."""
     made = words()
     given = made.parse_args(argv)
+    given.words = given.words[given.words[:1] == ["--"] :]
     if not given.words:
         made.error("the words of bonsai-ask are missing: F N QUESTION, or F questions S")
     if given.json and given.way is not None:
@@ -70,8 +75,25 @@ def main(argv: list[str] | None = None) -> int:
     call = Call.of(given.words)
     if given.junit and call.classes != QUESTIONS:
         made.error("--junit needs a file of questions: F questions S")
-    asked = Asked(Program(name=NAME), call.file)
-    return ways(asked, call, given.way) if given.way is not None else answers(asked, call, given)
+    if call.file == call.asked_in == "-":
+        made.error("- names standard input, and can stand for one file only")
+    try:
+        if given.way is not None:
+            return ways(call, given.way)
+        return answers(Asked.of(Program(name=NAME), call), call, given)
+    except NotAnswered as ended:
+        return _ended(ended.answer)
+
+
+def _ended(answer: Answer) -> int:
+    """Ends as the program did: with its line, and its status, which is another one where the line is not taken."""
+    return answer.status if streams.takes(2, answer.err) else Status.WRITE_FAULT
+
+
+def say(made: bytes) -> None:
+    """Writes to standard output. NotAnswered as the program ends where that does not take it."""
+    if not streams.takes(1, made):
+        raise NotAnswered(Answer(Status.WRITE_FAULT, b"", b"write fault\n"), "")
 
 
 def answers(asked: Asked, call: Call, given: argparse.Namespace) -> int:
@@ -83,63 +105,56 @@ def answers(asked: Asked, call: Call, given: argparse.Namespace) -> int:
         if is_kept:
             kept.append(part)
         if not given.json:
-            sys.stdout.buffer.write(part)
-            sys.stdout.buffer.flush()
+            say(part)
 
     answer = _answered(asked, call, given.jobs, write)
     if answer.status not in IS_DONE:
-        sys.stderr.write(shown(answer.err.decode("utf-8", "surrogateescape")))
-        return answer.status
+        return _ended(answer)
     if is_kept:
         reports = reports_of(b"".join(kept).decode("ascii"))
-        questions = _questions(call)
+        questions = questions_of(asked.questions)
         if given.json:
             made = document(asked.program.identity, given.words[1:], answer.status, reports, questions)
-            print(json.dumps(made, indent=1))
+            say(json.dumps(made, indent=1).encode() + b"\n")
         if given.junit:
-            write_output(given.junit, junit(call.task[0], questions, reports), call.task[0])
+            assert call.asked_in is not None
+            write_output(given.junit, junit(call.asked_in, questions, reports), call.asked_in)
     return answer.status
 
 
-def _answered(asked: Asked, call: Call, jobs: int, write: object) -> Answer:
-    assert callable(write)
+def _answered(asked: Asked, call: Call, jobs: int, write: Callable[[bytes], None]) -> Answer:
     if is_shared(call, jobs):
         return shared(asked, call, jobs, write)
-    answer = asked.program.ask(*call.words(call.task), texts=asked.texts)
+    answer = asked.ask(call.words(call.task))
     write(answer.out)
     return answer
 
 
-def _questions(call: Call) -> list[Question]:
-    """The questions of the second file, none where the words name no such file."""
-    return questions_of(read_input(call.task[0])) if call.classes == QUESTIONS and call.task else []
-
-
-def ways(asked: Asked, call: Call, router: str) -> int:
+def ways(call: Call, router: str) -> int:
     """Writes the ways of a router's traffic, or behind the answer `no` a way that makes it `no`."""
     if call.classes == QUESTIONS or call.task[:1] in (("count",), (SOLUTIONS,), (FORWARDS,), ("failing",)):
         raise Refused("--way takes no task but a question: F N [without DOWN], or F N [without DOWN] QUESTION")
     if not call.task:
-        return _all_ways(asked, call, router)
+        return _all_ways(Asked.of(Program(name=NAME), dataclasses.replace(call, task=(FORWARDS,))), router)
+    asked = Asked.of(Program(name=NAME), call)
     status, text = asked.done(call.words(call.task))
-    print(text, end="")
+    say(text.encode())
     (report,) = reports_of(text)
     answer = report.parts[0] if len(report.parts) == 1 else None
     if isinstance(answer, ClassAnswer) and answer.labels and call.task[0] in CHAINS:
-        sys.stdout.flush()
         _offending_way(asked, call, answer, router)
     return status
 
 
-def _all_ways(asked: Asked, call: Call, router: str) -> int:
-    status, text = asked.done(call.words((FORWARDS,)))
-    interfaces = interfaces_of(read_network(asked.text.decode("ascii"), asked.name))
+def _all_ways(asked: Asked, router: str) -> int:
+    status, text = asked.done(asked.call.words((FORWARDS,)))
+    carriers = carriers_of(read_network(asked.text.decode("ascii"), asked.name))
     (report,) = reports_of(text)
     for part in report.parts:
         assert isinstance(part, Solution)
         nexts = _with_router(asked, forwards_of(part.lines), router)
-        print(f"class {part.number} solution {part.place}" if part.number else f"solution {part.place}")
-        print("\n".join(way_lines(nexts, router, interfaces)))
+        head = f"class {part.number} solution {part.place}" if part.number else f"solution {part.place}"
+        say("".join(f"{line}\n" for line in (head, *way_lines(nexts, router, carriers))).encode())
     if not report.parts:
         print(f"{NAME}: no class that is named has a stable solution", file=sys.stderr)
     return status
@@ -156,9 +171,8 @@ def _offending_way(asked: Asked, call: Call, answer: ClassAnswer, router: str) -
     nexts = _with_router(asked, _nexts_of(asked, call, answer), router)
     chain = _offending_chain(asked, call, answer, nexts, router)
     if chain:
-        interfaces: Interfaces = interfaces_of(read_network(asked.text.decode("ascii"), asked.name))
-        print("way")
-        print(chain_line(chain, interfaces))
+        carriers = carriers_of(read_network(asked.text.decode("ascii"), asked.name))
+        say(f"way\n{chain_line(chain, carriers)}\n".encode())
 
 
 def _nexts_of(asked: Asked, call: Call, answer: ClassAnswer) -> Nexts:

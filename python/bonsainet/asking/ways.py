@@ -7,18 +7,31 @@ from collections.abc import Collection, Iterator, Mapping
 from bonsainet.configs.network import Network
 
 Nexts = Mapping[str, tuple[str, ...] | None]
-Interfaces = Mapping[tuple[str, str], list[str]]
+Pair = tuple[str, str]
+Interfaces = Mapping[Pair, list[str]]
+Carriers = Mapping[Pair, str]
 
 
-def interfaces_of(network: Network) -> dict[tuple[str, str], list[str]]:
-    """For each pair of routers the interfaces of the links between them, as `Ethernet1 > Ethernet3`: that of the first
-    router, then that of the second."""
-    found: dict[tuple[str, str], list[str]] = {}
+def interfaces_of(network: Network) -> dict[Pair, list[str]]:
+    """For each pair of routers the interfaces of the links over which the first may forward to the second, as
+    `Ethernet1 > Ethernet3`: its own, then that of the second. In OSPF these are the links of the least cost at the first
+    router, each of which carries traffic. In BGP they are all sessions: which of several carry, hangs on their policies.
+    """
+    found: dict[Pair, list[tuple[int, str]]] = {}
     for link in network.links:
         for near, far in ((link.low, link.high), (link.high, link.low)):
-            pair = near.device.name, far.device.name
-            found.setdefault(pair, []).append(f"{near.interface.name} > {far.interface.name}")
-    return found
+            cost = near.cost or 0 if network.protocol == "ospf" else 0
+            told = f"{near.interface.name} > {far.interface.name}"
+            found.setdefault((near.device.name, far.device.name), []).append((cost, told))
+    return {pair: [told for cost, told in links if cost == min(links)[0]] for pair, links in found.items()}
+
+
+def carriers_of(network: Network) -> dict[Pair, str]:
+    """For each pair of routers the interfaces over which the first forwards to the second, if it does, in words."""
+    pairs = interfaces_of(network)
+    if network.protocol == "ospf":
+        return {pair: " and ".join(links) for pair, links in pairs.items()}
+    return {pair: f"{'one or more of ' * (len(links) > 1)}{', '.join(links)}" for pair, links in pairs.items()}
 
 
 def reached(nexts: Nexts, start: str) -> Iterator[str]:
@@ -33,28 +46,27 @@ def reached(nexts: Nexts, start: str) -> Iterator[str]:
                 left.append(further)
 
 
-def way_lines(nexts: Nexts, start: str, interfaces: Interfaces) -> list[str]:
-    """A line for each router that traffic of `start` may pass: to whom it forwards, with the interfaces. Where several
-    links join two routers, all of them are named."""
-    return [_line(router, nexts[router], interfaces) for router in reached(nexts, start)]
+def way_lines(nexts: Nexts, start: str, carriers: Carriers) -> list[str]:
+    """A line for each router that traffic of `start` may pass: to whom it forwards, with the interfaces."""
+    return [_line(router, nexts[router], carriers) for router in reached(nexts, start)]
 
 
-def _line(router: str, nexts: tuple[str, ...] | None, interfaces: Interfaces) -> str:
+def _line(router: str, nexts: tuple[str, ...] | None, carriers: Carriers) -> str:
     if nexts is None:
         return f"  {router} none"
     if not nexts:
         return f"  {router} here"
-    return f"  {router} to {', '.join(_hop(router, further, interfaces) for further in nexts)}"
+    return f"  {router} to {', '.join(_hop(router, further, carriers) for further in nexts)}"
 
 
-def _hop(router: str, further: str, interfaces: Interfaces) -> str:
-    over = " or ".join(interfaces.get((router, further), []))
+def _hop(router: str, further: str, carriers: Carriers) -> str:
+    over = carriers.get((router, further))
     return f"{further} ({over})" if over else further
 
 
-def chain_line(chain: list[str], interfaces: Interfaces) -> str:
+def chain_line(chain: list[str], carriers: Carriers) -> str:
     """A chain of forwarding on one line."""
-    hops = [_hop(near, far, interfaces) for near, far in zip(chain, chain[1:])]
+    hops = [_hop(near, far, carriers) for near, far in zip(chain, chain[1:])]
     return "  " + " to ".join([chain[0], *hops])
 
 

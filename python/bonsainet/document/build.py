@@ -1,28 +1,33 @@
 """The document: plain data with the fields that docs/data/bonsai.schema.json gives."""
 from __future__ import annotations
 
+from collections.abc import Mapping, Sequence
 from typing import Any
 
-from bonsainet.ask.program import Group
+from bonsainet.ask.program import BONSAI, Group
 from bonsainet.ask.where import Identity
 from bonsainet.configs.compressed import Asked, Compressed, policy_lines
 from bonsainet.configs.network import End, Link, Network
 from bonsainet.configs.profile import Device
 from bonsainet.configs.unmatched import reason
-from bonsainet.doubts.ties import Route, Tied
+from bonsainet.doubts.ties import Route, Tied, Unasked
 
 FORM = 2
 
 
 def document(
-    text: Asked, found: list[Compressed], program: Identity, ties: dict[int, list[Tied] | str] | None = None
+    text: Asked,
+    found: Sequence[Compressed],
+    programs: Mapping[str, Identity],
+    ties: dict[int, list[Tied] | Unasked] | None = None,
 ) -> dict[str, Any]:
     """All that Bonsai says of a network, for the classes given, with their ties where these were asked, and which
-    program said it. Each name stands there once: a router has the number of its place among `routers`, from 1."""
+    programs said it. Each name stands there once: a router has the number of its place among `routers`, from 1."""
     place = {device.name: number for number, device in enumerate(text.network.devices, 1)}
     return {
         "form": FORM,
-        "program": program.plain,
+        "program": programs[BONSAI].plain,
+        "programs": {name: program.plain for name, program in programs.items()},
         "protocol": text.network.protocol,
         "area": text.network.area,
         "routers": [_router(device) for device in text.network.devices],
@@ -51,10 +56,10 @@ def _router(device: Device) -> dict[str, object]:
     return {"name": device.name, "as": device.bgp.number if device.bgp else None}
 
 
-def _ties(found: list[Tied] | str | None, group_of: dict[str, Group]) -> dict[str, object]:
+def _ties(found: list[Tied] | Unasked | None, group_of: dict[str, Group]) -> dict[str, object]:
     """The field of the ties of a class, none where they were not asked for."""
-    if isinstance(found, str):
-        return {"ties_not_asked": found}
+    if isinstance(found, Unasked):
+        return {"ties_not_asked": found.told}
     if found is None:
         return {}
     return {
@@ -76,7 +81,7 @@ def _route(route: Route, group_of: dict[str, Group]) -> dict[str, object]:
 
 
 def _class(
-    network: Network, place: dict[str, int], found: Compressed, ties: list[Tied] | str | None
+    network: Network, place: dict[str, int], found: Compressed, ties: list[Tied] | Unasked | None
 ) -> dict[str, object]:
     size, group_of = found.size, found.group_of()
     numbers = {device.name: device.bgp.number if device.bgp else None for device in network.devices}

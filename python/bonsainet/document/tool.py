@@ -10,14 +10,13 @@ import textwrap
 from collections.abc import Iterator
 from typing import Any
 
-from bonsainet.ask.accepted import Wanted, add_classes, add_text, class_of
+from bonsainet.ask.accepted import add_classes, add_text, chosen
 from bonsainet.cli.command_line import Refused, name_of, parser, read_input
 from bonsainet.configs.compressed import Asked, asked
 from bonsainet.document.build import document
-from bonsainet.doubts.ties import ties_by_class
-from bonsainet.ask.program import TOP, Program
+from bonsainet.doubts.ties import TiesAsked
+from bonsainet.ask.program import ALL, ASK, BONSAI, TOP, identities, named
 
-AT_A_TIME = 64
 SCHEMA = TOP / "docs" / "data" / "bonsai.schema.json"
 
 
@@ -44,32 +43,32 @@ def main(argv: list[str] | None = None) -> None:
 
 def work(arguments: argparse.Namespace) -> None:
     """Writes the document, when all of it is made. Few classes are in memory at a time."""
-    program = Program()
-    text = asked(program, read_input(arguments.file), name_of(arguments.file), arguments.numbers)
+    text = asked(named(BONSAI), read_input(arguments.file), name_of(arguments.file))
     with tempfile.TemporaryFile("w+", encoding="ascii") as made:
-        numbers = chosen(text, arguments.numbers)
+        numbers = chosen(text.classes, arguments.numbers, text.name)
         indent, has_ties = None if arguments.compact else 1, not arguments.no_ties
-        made.writelines(pieces(text, program, numbers, indent, has_ties, arguments.check))
+        made.writelines(pieces(text, numbers, indent, has_ties, arguments.check))
         made.seek(0)
         shutil.copyfileobj(made, sys.stdout)
     print()
 
 
-def pieces(
-    text: Asked, program: Program, numbers: list[int], indent: int | None, has_ties: bool, is_checked: bool
-) -> Iterator[str]:
+def pieces(text: Asked, numbers: list[int], indent: int | None, has_ties: bool, is_checked: bool) -> Iterator[str]:
     """The document piece by piece, as `json.dumps` writes it whole."""
-    head = json.dumps(document(text, [], program.identity), indent=indent)
+    has_ties = has_ties and text.network.protocol == "bgp" and bool(numbers)
+    programs = identities(BONSAI, *([ALL] if numbers else []), *([ASK] if has_ties else []))
+    head = json.dumps(document(text, [], programs), indent=indent)
     at = head.rindex("[]") + 1
     yield head[:at]
-    for first in range(0, len(numbers), AT_A_TIME):
-        of = range(first, len(numbers))
-        found = text.compress_each(program, numbers[first : first + AT_A_TIME], "bonsai-json", of)
-        made = document(text, found, program.identity, ties_by_class(program, text, found) if has_ties else None)
+    ties = TiesAsked(named(BONSAI), text, numbers) if has_ties else None
+    count = 0
+    for found in text.compress_some(numbers):
+        made = document(text, found, programs, ties.by_class(found) if ties else None)
         if is_checked:
             check(made)
-        for number, each in enumerate(made["classes"], first):
+        for number, each in enumerate(made["classes"], count):
             yield separated(json.dumps(each, indent=indent), number, indent)
+        count += len(found)
     yield ("\n " if numbers and indent else "") + head[at:]
 
 
@@ -78,12 +77,6 @@ def separated(made: str, number: int, indent: int | None) -> str:
     if indent is None:
         return f", {made}" if number else made
     return ("," if number else "") + "\n" + textwrap.indent(made, "  ")
-
-
-def chosen(text: Asked, numbers: list[Wanted] | None) -> list[int]:
-    """The classes that are asked for: all, where none is named."""
-    wanted = numbers or [found.number for found in text.classes]
-    return list(dict.fromkeys(class_of(text.classes, one, text.name).number for one in wanted))
 
 
 def check(made: dict[str, Any]) -> None:

@@ -20,6 +20,18 @@ HELLO = 10
 DEADS_PER_HELLO = 4
 MTU = "1500"
 AUTHENTICATIONS = {(): "simple", ("message-digest",): "message-digest", ("null",): "none"}
+KEYS = {
+    (): ("ip", "ospf", "authentication-key"),
+    ("message-digest",): ("ip", "ospf", "message-digest-key"),
+}
+BUNDLES = {
+    frozenset({"on"}),
+    frozenset({"active"}),
+    frozenset({"active", "passive"}),
+    frozenset({"desirable"}),
+    frozenset({"desirable", "auto"}),
+}
+DIRECT = 30
 ENCAPSULATIONS = ("ppp", "hdlc", "frame-relay")
 SECRETS = ("password", "authentication-key", "md5")
 SALT = "dsfd;kfoA,.iyewrkldJKDHSUBsgvca69834ncxv9873254k;fg87"
@@ -39,12 +51,16 @@ def doubts_of_agreement(network: Network) -> Iterator[Doubt]:
             yield from _compared(setting, link.low, link.high)
         for setting in (_tag, _encapsulation):
             yield from _both(setting, link)
+        if link.subnet.prefixlen >= DIRECT:
+            yield from _both(_speed, link)
+            yield from _bundled(link)
         if network.protocol == "bgp":
             yield from _secrets(link, "the password", _passwords)
             yield from _waiting(link)
         else:
             yield from _secrets(link, "the key", _plain_keys)
             yield from _secrets(link, "the identifier or the key of message-digest", _digest_keys)
+            yield from _keyless(link)
         yield from _filtered(network, link)
 
 
@@ -109,13 +125,35 @@ def _dead(end: End) -> tuple[str, str, Line | None]:
 
 
 def _authentication(end: End) -> tuple[str, str, Line | None]:
+    words, line = _authentication_of(end)
+    return "the authentication", AUTHENTICATIONS.get(words, " ".join(words[:1])), line
+
+
+def _authentication_of(end: End) -> tuple[tuple[str, ...], Line | None]:
+    """The words behind the line of authentication that counts, `null` without one."""
     found = _last(end.interface.ignored, ("ip", "ospf", "authentication"))
-    words, line = found or (("null",), None)
-    return "the authentication", AUTHENTICATIONS.get(words, " ".join(words)), line
+    return found or (("null",), None)
+
+
+def _keyless(link: Link) -> Iterator[Doubt]:
+    """A doubt where both ends have one type of authentication, and one of them alone has a key for it."""
+    words, _ = _authentication_of(link.low)
+    head = KEYS.get(words)
+    if head is None or words != _authentication_of(link.high)[0]:
+        return
+    mine, theirs = (_last(end.interface.ignored, head) for end in (link.low, link.high))
+    if bool(mine) != bool(theirs):
+        at, far = (link.low, link.high) if mine else (link.high, link.low)
+        line = (mine or theirs or ((), None))[1]
+        told = f"a key is given here and none on {_name(far)}: {NO_LINK}"
+        yield doubt("no-agreement", at.device.name, _without_secret(line), told)
 
 
 def _mtu(end: End) -> tuple[str, str, Line | None]:
-    found = _last(end.interface.ignored, ("ip", "mtu")) or _last(end.interface.ignored, ("mtu",))
+    """The MTU of IP: its own, else that of the interface or of the one that carries it."""
+    own = end.interface.ignored
+    carrier = _carrier(end)
+    found = _last(own, ("ip", "mtu")) or _last(own, ("mtu",)) or (_last(carrier.ignored, ("mtu",)) if carrier else None)
     return ("the MTU", found[0][0], found[1]) if found and found[0] else ("the MTU", MTU, None)
 
 
@@ -132,7 +170,38 @@ def _password_line(end: End) -> Line | None:
 def _tag(end: End) -> tuple[str, str, Line | None]:
     """The tag of a subinterface, empty where it has none: a switch between the ends may put it on."""
     found = _last(end.interface.ignored, ("encapsulation", "dot1Q"), ("encapsulation", "dot1q"))
-    return ("the tag of frames", found[0][0], found[1]) if found and found[0] else ("", "", None)
+    return ("the tag of frames", " ".join(found[0]), found[1]) if found and found[0] else ("", "", None)
+
+
+def _carrier(end: End) -> Interface | None:
+    """The interface that carries a subinterface, none where it is no subinterface."""
+    main, point, _ = end.interface.name.partition(".")
+    return next((one for one in end.device.interfaces if point and one.name == main), None)
+
+
+def _speed(end: End) -> tuple[str, str, Line | None]:
+    """The speed that a line fixes, empty where both ends agree on one."""
+    found = _last((_carrier(end) or end.interface).ignored, ("speed",))
+    is_fixed = found is not None and len(found[0]) == 1 and found[0][0].isdecimal()
+    return ("the speed", f"{found[0][0]} Mbit/s", found[1]) if found and is_fixed else ("", "", None)
+
+
+def _bundled(link: Link) -> Iterator[Doubt]:
+    """A doubt where the members of two bundles can make no bundle: both ends wait, or they speak two protocols."""
+    modes = [_modes(end) for end in (link.low, link.high)]
+    pairs = {frozenset((mine, theirs)) for mine in modes[0] for theirs in modes[1]}
+    if pairs and not pairs & BUNDLES:
+        line = next(iter(modes[1].values()))
+        told = f"its ports have the mode {' '.join(sorted(modes[1]))} here and {' '.join(sorted(modes[0]))} at {_name(link.low)}: they make no bundle, and {NO_LINK}"
+        yield doubt("no-agreement", link.high.device.name, line, told)
+
+
+def _modes(end: End) -> dict[str, Line]:
+    """The modes of the ports of a bundle, each with a line that gives it."""
+    name = (_carrier(end) or end.interface).name
+    lines = [line for one in end.device.interfaces if not one.is_shut for line in one.ignored]
+    given = [line for line in lines if line.words[:1] == ["channel-group"] and line.words[2:3] == ["mode"]]
+    return {line.words[3]: line for line in given if name == f"Port-channel{line.words[1]}" and len(line.words) > 3}
 
 
 def _encapsulation(end: End) -> tuple[str, str, Line | None]:

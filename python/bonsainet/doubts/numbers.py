@@ -6,51 +6,68 @@ stricter check of loops takes away only candidates that nobody holds (RFC 4271 s
 from __future__ import annotations
 
 import re
-from collections.abc import Iterator
+from collections.abc import Iterator, Sequence
 
-from bonsainet.configs.compressed import Asked, side_by_side
-from bonsainet.doubts.finding import Doubt, doubt
-from bonsainet.doubts.ties import MOST_ROUNDS
 from bonsainet.ask.labels import BgpLabel, Label, read_solution
-from bonsainet.ask.program import Program
+from bonsainet.asking.reports import Count, Solution
+from bonsainet.asking.shares import parts_of
+from bonsainet.configs.compressed import Asked
+from bonsainet.doubts.finding import Doubt, doubt
+from bonsainet.doubts.untied import SECONDS
 
+MOST_SOLUTIONS = 64
 NOTE = re.compile(r"^! assumed: AS number (\d+) for (\d+) \(--own-as\)\s*$", re.MULTILINE)
 
 
-def doubts_of_numbers(program: Program, asked: Asked, numbers: list[int]) -> Iterator[Doubt]:
-    """A doubt for each class in which a path passes two such routers, or which does not rest; and how many classes have
-    none."""
+def doubts_of_numbers(asked: Asked, numbers: Sequence[int]) -> Iterator[Doubt]:
+    """A doubt for each class in which a path passes two such routers, or of which that was not asked; and how many classes
+    have none."""
     originals = {int(own): int(old) for own, old in NOTE.findall(asked.text)}
     if not originals:
         return
-    found = side_by_side(lambda number: _of_class(program, asked, originals, number), numbers)
+    found = list(_solved(asked, originals, sorted(numbers)))
     yield from (one for one in found if one)
     sure = sum(one is None for one in found)
     told = f"in {sure} of {len(found)} classes no path at rest passes two routers of one original number: these labels, with the original numbers, are stable there too (docs/use/IMPORT.md says what that shows)"
     yield Doubt("own-number", "", None, "", told)
 
 
-def _of_class(program: Program, asked: Asked, originals: dict[int, int], number: int) -> Doubt | None:
-    rounds = min(MOST_ROUNDS, 2 * len(asked.network.devices) + 2)
-    told = program.done("run", "F", str(number), "S", texts={"F": asked.text, "S": "* " * rounds})
-    if not told.startswith("rest\n"):
-        return Doubt(
-            "own-number",
-            "",
-            None,
-            "",
-            f"class {number} does not rest after {rounds} rounds of all routers: nothing is said of it",
-        )
-    for name, label in read_solution(told.partition("\n")[2]).items():
+def _solved(asked: Asked, originals: dict[int, int], numbers: Sequence[int]) -> Iterator[Doubt | None]:
+    """For each class a doubt, or none, by all of its stable solutions."""
+    counts = {
+        part.number: part.solutions
+        for _, parts in parts_of(asked.text, ("count",), numbers, SECONDS)
+        for part in parts or ()
+        if isinstance(part, Count)
+    }
+    few = [number for number in numbers if 0 < counts.get(number, 0) <= MOST_SOLUTIONS]
+    others = sorted(set(numbers).difference(few))
+    yield from (_not_asked(number, counts.get(number)) for number in others)
+    for (first, last), parts in parts_of(asked.text, ("solutions",), few, SECONDS) if few else ():
+        for number in range(first, last + 1):
+            those = [part for part in parts or () if isinstance(part, Solution) and part.number == number]
+            if parts is None:
+                yield _not_asked(number, None)
+            else:
+                yield next(filter(None, (_of_solution(asked, originals, number, part) for part in those)), None)
+
+
+def _not_asked(number: int, solutions: int | None) -> Doubt:
+    """Why nothing is said of a class: it has no stable solution, too many, or was not answered."""
+    why = {
+        None: f"bonsai-ask was ended, since it took more than {SECONDS:g} seconds",
+        0: "it has no stable solution, so it does not rest",
+    }.get(solutions, f"it has {solutions} stable solutions, more than {MOST_SOLUTIONS}")
+    return Doubt("own-number", "", None, "", f"class {number}: {why}: nothing is said of its paths")
+
+
+def _of_solution(asked: Asked, originals: dict[int, int], number: int, solution: Solution) -> Doubt | None:
+    for name, label in read_solution("\n".join(solution.lines)).items():
         process = asked.network.by_name[name].bgp
         twice = _twice(originals, process.number, label) if process else None
-        if twice:
-            return doubt(
-                "own-number",
-                name,
-                process.line,
-                f"class {number}: its path `{label.text}` passes two routers of AS {twice}, the holder counted: the original network drops it",
-            )
+        if process and isinstance(label, BgpLabel) and twice:
+            told = f"class {number}: its path `{label.text}` passes two routers of AS {twice}, the holder counted: the original network drops it"
+            return doubt("own-number", name, process.line, told)
     return None
 
 

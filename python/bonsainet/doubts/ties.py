@@ -10,24 +10,30 @@ from __future__ import annotations
 import dataclasses
 from collections.abc import Iterator, Sequence
 
-from bonsainet.configs.compressed import Asked, Compressed, side_by_side
+from bonsainet.ask.shares import side_by_side
+from bonsainet.asking.reports import Tie
+from bonsainet.cli.progress import counted_off
+from bonsainet.configs.compressed import Asked, Compressed
 from bonsainet.doubts.finding import Doubt, doubt
-from bonsainet.doubts.untied import ties_told
+from bonsainet.doubts.untied import Met, ties_met
 from bonsainet.ask.labels import BgpLabel, Label, read_solution, solution_text
 from bonsainet.configs.network import End, Network
 from bonsainet.configs.profile import community_text
 from bonsainet.ask.program import Answer, NotAnswered, Program, Status
 from bonsainet.configs.text import read_text, text_of
 
+MOST_CLASSES = 16
 MOST_ROUNDS = 64
 MOST_TOLD = 6
 MOST_NAMED = 4
 COMMUNITIES = "communities"
 LONE_NUMBERS = "lone numbers"
 
+Alike = dict[bytes, list[Compressed]]
+
 
 @dataclasses.dataclass(frozen=True)
-class Tie:
+class HeldTie:
     """A router of a compressed network, the route that it holds, and one that it holds not, with the neighbours that
     offer them."""
 
@@ -59,6 +65,14 @@ class Route:
 
 
 @dataclasses.dataclass(frozen=True)
+class Unasked:
+    """Why the routes of a class were not asked, in words, with the tie that bonsai-ask names, if it names one."""
+
+    told: str
+    tie: Tie | None = None
+
+
+@dataclasses.dataclass(frozen=True)
 class Tied:
     """A group that holds a tied route: the routers, what decided, the route that they hold in the profile, and the
     others, which real routers may hold as well."""
@@ -76,62 +90,83 @@ class Tied:
         return f"{' and '.join(self.decided)} decided for the route {self.held.told}, and real routers may hold the one {shown}{more}"
 
 
-def doubts_of_ties(program: Program, asked: Asked, numbers: list[int]) -> Iterator[Doubt]:
+class TiesAsked:
+    """Who asks for the ties of a network's classes. Which classes have none, bonsai-ask says of all of them at once. Of the
+    others the routes are asked on the compressed networks, of the first 16 that differ in more than their prefixes."""
+
+    def __init__(self, program: Program, asked: Asked, numbers: Sequence[int]) -> None:
+        self.program, self.asked = program, asked
+        self.met = ties_met(asked.text, sorted(numbers)) if asked.network.protocol == "bgp" else Met({})
+        self.found: dict[bytes, list[Tied] | Unasked] = {}
+
+    def of(self, shapes: Alike) -> list[tuple[list[Compressed], list[Tied] | Unasked]]:
+        """The ties of some classes, those together that are alike except for their prefixes, of which the first is asked."""
+        unknown = [shape for shape, alike in shapes.items() if shape not in self.found and not self._have_none(alike)]
+        asked = unknown[: max(0, MOST_CLASSES - len(self.found))]
+        routes = side_by_side(lambda shape: tied_groups(self.program, shapes[shape][0]), asked)
+        self.found.update(zip(asked, routes))
+        return [(alike, self._ties(shape, alike)) for shape, alike in shapes.items()]
+
+    def by_class(self, classes: Sequence[Compressed]) -> dict[int, list[Tied] | Unasked]:
+        """For each class the groups that hold a tied route, or why they were not asked. Empty where the network has no
+        BGP."""
+        if self.asked.network.protocol != "bgp":
+            return {}
+        shapes: Alike = {}
+        for small in classes:
+            shapes.setdefault(small.shape_sum, []).append(small)
+        return {one.number: ties for alike, ties in self.of(shapes) for one in alike}
+
+    def _have_none(self, alike: list[Compressed]) -> bool:
+        return all(self.met.has_none(one.number) for one in alike)
+
+    def _ties(self, shape: bytes, alike: list[Compressed]) -> list[Tied] | Unasked:
+        if self._have_none(alike):
+            return []
+        if shape in self.found:
+            return self.found[shape]
+        tie = self.met.ties.get(alike[0].number)
+        met = f"bonsai-ask meets a tie at {tie.router}, by {tie.by}; " if tie else ""
+        told = f"the routes were asked of {MOST_CLASSES} other classes, and bonsai-doubts --class asks for those of one"
+        return Unasked(met + told, tie)
+
+
+def doubts_of_ties(program: Program, asked: Asked, numbers: Sequence[int]) -> Iterator[Doubt]:
     """The ties of some classes; of classes whose compressed networks are alike but for their prefixes the first is
     asked."""
     if asked.network.protocol != "bgp":
         return
-    told = ties_told(asked.text)
-    for classes, found in ties_of_each(program, asked.compress_each(program, numbers), told):
+    ties = TiesAsked(program, asked, numbers)
+    if ties.met.late:
+        yield Doubt("tie-not-asked", "", None, "", ties.met.told_of_late)
+    shapes: Alike = {}
+    left = [number for number in sorted(numbers) if not ties.met.has_none(number)]
+    for small in counted_off("classes with ties", len(left), asked.compress_each(left)):
+        alike = shapes.setdefault(small.shape_sum, [])
+        # (of a large network few classes are in memory as a whole)
+        alike.append(small if not alike and len(shapes) <= MOST_CLASSES else small.without_network())
+    for classes, found in ties.of(shapes):
         yield from _doubts(asked, classes, found)
-        yield from _told_alone(asked, classes, found, told)
+        yield from _told_alone(asked, classes, found, ties.met)
 
 
-def ties_of_each(
-    program: Program, found: Sequence[Compressed], told: dict[int, tuple[str, str] | None]
-) -> list[tuple[list[Compressed], list[Tied] | str]]:
-    """The ties of some classes of BGP, or why they were not asked, once for all classes that are alike but for their
-    prefixes. Of classes in which bonsai-ask met no tie nothing is asked."""
-    shapes: dict[object, list[Compressed]] = {}
-    for small in found:
-        shapes.setdefault(small.shape, []).append(small)
-    alike = list(shapes.values())
-
-    def ties(classes: list[Compressed]) -> list[Tied] | str:
-        has_none = all(told.get(one.number, ("", "")) is None for one in classes)
-        return [] if has_none else tied_groups(program, classes[0])
-
-    return list(zip(alike, side_by_side(ties, alike)))
-
-
-def _told_alone(
-    asked: Asked, classes: list[Compressed], found: list[Tied] | str, told: dict[int, tuple[str, str] | None]
-) -> Iterator[Doubt]:
+def _told_alone(asked: Asked, classes: list[Compressed], found: list[Tied] | Unasked, met: Met) -> Iterator[Doubt]:
     """A tie that bonsai-ask names, and that was not met where the originators alone begin."""
-    named = told.get(classes[0].number)
-    if named and found == []:
-        line = asked.network.by_name[named[0]].bgp.line
-        words = f"class {classes[0].number}: bonsai-ask meets two routes of one preference and length here, which differ in {named[1]}"
-        yield doubt("tie", named[0], line, f"{words}, and real routers may hold either")
+    tie = met.ties.get(classes[0].number)
+    if tie and found == []:
+        line = asked.network.by_name[tie.router].own_bgp.line
+        words = f"class {classes[0].number}: bonsai-ask meets two routes of one preference and length here, which differ in {tie.by}"
+        yield doubt("tie", tie.router, line, f"{words}, and real routers may hold either")
 
 
-def ties_by_class(program: Program, asked: Asked, found: Sequence[Compressed]) -> dict[int, list[Tied] | str]:
-    """For each class the groups that hold a tied route, or why they were not asked. Empty where the network has no
-    BGP."""
-    if asked.network.protocol != "bgp":
-        return {}
-    told = ties_told(asked.text)
-    return {one.number: ties for classes, ties in ties_of_each(program, found, told) for one in classes}
-
-
-def _doubts(asked: Asked, classes: list[Compressed], found: list[Tied] | str) -> Iterator[Doubt]:
+def _doubts(asked: Asked, classes: list[Compressed], found: list[Tied] | Unasked) -> Iterator[Doubt]:
     small = classes[0]
     told = f"class {small.number}" if len(classes) == 1 else f"classes {' '.join(str(one.number) for one in classes)}"
-    if isinstance(found, str):
-        yield Doubt("tie-not-asked", "", None, "", f"{told}: {found}")
+    if isinstance(found, Unasked):
+        yield Doubt("tie-not-asked", "", None, "", f"{told}: {found.told}")
         return
     for tied in found:
-        line = asked.network.by_name[tied.members[0]].bgp.line
+        line = asked.network.by_name[tied.members[0]].own_bgp.line
         yield doubt("tie", " ".join(tied.members), line, f"{told}: {tied.told}")
 
 
@@ -143,10 +178,10 @@ def _one_of(members: Sequence[str]) -> str:
     return f"({' '.join(members[:MOST_NAMED])}{more})"
 
 
-def tied_groups(program: Program, small: Compressed) -> list[Tied] | str:
+def tied_groups(program: Program, small: Compressed) -> list[Tied] | Unasked:
     """The groups of a class that hold a tied route, or why they were not asked."""
     found = ties_of(program, small)
-    if isinstance(found, str):
+    if isinstance(found, Unasked):
         return found
     members = {group.members[0]: group.members for group in small.groups}
     by_number = {device.bgp.number: device.name for device in small.network.devices if device.bgp}
@@ -164,19 +199,19 @@ def tied_groups(program: Program, small: Compressed) -> list[Tied] | str:
     return tied
 
 
-def ties_of(program: Program, small: Compressed) -> list[Tie] | str:
+def ties_of(program: Program, small: Compressed) -> list[HeldTie] | Unasked:
     """The ties of a class, or why they were not asked."""
     if small.refusal:
-        return f"`compress` refused it: {small.refusal}"
+        return Unasked(f"`compress` refused it: {small.refusal}")
     rounds = "* " * min(MOST_ROUNDS, 2 * len(small.groups) + 2)
     told = _run(program, small.text, rounds)
     if not told.startswith("rest\n"):
-        return f"it does not rest after {len(rounds.split())} rounds of all groups"
+        return Unasked(f"it does not rest after {len(rounds.split())} rounds of all groups")
     labels = read_solution(told.partition("\n")[2])
     return [tie for name in labels for tie in _at(program, small, labels, name)]
 
 
-def _at(program: Program, small: Compressed, labels: dict[str, Label], name: str) -> Iterator[Tie]:
+def _at(program: Program, small: Compressed, labels: dict[str, Label], name: str) -> Iterator[HeldTie]:
     """The ties at a router."""
     held = labels[name]
     ends = [far for near, far in _ends(small.network) if near.device.name == name]
@@ -189,7 +224,7 @@ def _at(program: Program, small: Compressed, labels: dict[str, Label], name: str
             isinstance(label, BgpLabel) and label.preference == held.preference and len(label.path) == len(held.path)
         )
         if is_even and label != held and _is_beaten(program, small.text, {**labels, name: label}, name):
-            yield Tie(name, held, giver, label, neighbour)
+            yield HeldTie(name, held, giver, label, neighbour)
 
 
 def _ends(network: Network) -> Iterator[tuple[End, End]]:

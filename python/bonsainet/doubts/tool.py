@@ -3,11 +3,11 @@ from __future__ import annotations
 
 import argparse
 import json
-from collections.abc import Iterator
+from collections.abc import Iterator, Mapping
 
-from bonsainet.ask.accepted import Wanted, add_classes, add_text, class_of
+from bonsainet.ask.accepted import add_classes, add_text, chosen
 from bonsainet.cli.command_line import name_of, parser, printable, read_input
-from bonsainet.configs.compressed import Asked, asked
+from bonsainet.configs.compressed import asked
 from bonsainet.doubts.agreement import doubts_of_agreement
 from bonsainet.doubts.finding import SORTS, Doubt
 from bonsainet.doubts.links import doubts_of_links
@@ -16,18 +16,19 @@ from bonsainet.doubts.policies import doubts_of_policies
 from bonsainet.doubts.suggested import doubts_of_folder
 from bonsainet.doubts.ties import doubts_of_ties
 from bonsainet.importing.read import add_skip, read_folder
-from bonsainet.ask.program import Program
-from bonsainet.ask.where import Identity, judged_by
+from bonsainet.ask.program import ALL, ASK, BONSAI, identities, named
+from bonsainet.ask.where import Identity, judged_by_each
 
+TIE_SORTS = ("tie", "tie-not-asked")
 PURPOSE = """Lists what a text says that Bonsai accepts and that is likely not meant.
 
 Lines that originate nothing, neighbours in no session, interfaces in the area without a neighbour, routers without links, links whose
 ends differ in timers, authentication, MTU or password, which Bonsai takes to agree, lists and maps that nothing uses, entries that
 nothing reaches, each with the reason. Ties: where at rest two routes of a router have one preference and one length, and communities
-or lone numbers decided. Real routers break these by age or identifier, and may rest elsewhere; the program is asked for them on the
-compressed network of each class, by `run` and `check`, and bonsai-ask, where it is at hand, for the classes without any. Paths that
-pass two routers of one AS number, where bonsai-import --own-as gave them numbers of their own. With --folder: links that the raw folder
-suggests, by two interfaces in one subnet, and the text has not. A doubt is no fault: the status is 0."""
+or lone numbers decided. Real routers break these by age or identifier, and may rest elsewhere. bonsai-ask says which classes have none;
+of the others the routes are asked on the compressed networks of the first 16, by `run` and `check`. Paths that pass two routers of one AS
+number, where bonsai-import --own-as gave them numbers of their own. With --folder: links that the raw folder suggests, by two interfaces
+in one subnet, and the text has not. A doubt is no fault: the status is 0."""
 
 
 def words() -> argparse.ArgumentParser:
@@ -51,32 +52,35 @@ def main(argv: list[str] | None = None) -> None:
 
 def work(arguments: argparse.Namespace) -> None:
     """Writes the doubts."""
-    program = Program()
     name = name_of(arguments.file)
-    text = asked(program, read_input(arguments.file), name)
+    text = asked(named(BONSAI), read_input(arguments.file), name)
     folder = read_folder(arguments.folder, arguments.skip) if arguments.folder else None
     found = [*doubts_of_links(text.network), *doubts_of_agreement(text.network), *doubts_of_policies(text.network)]
+    names = [BONSAI]
     if not arguments.no_ties:
-        numbers = chosen(text, arguments.numbers)
-        found += [*doubts_of_ties(program, text, numbers), *doubts_of_numbers(program, text, numbers)]
+        numbers = chosen(text.classes, arguments.numbers, text.name)
+        found += [*doubts_of_ties(named(BONSAI), text, numbers), *doubts_of_numbers(text, numbers)]
+        names += [ASK] if numbers and text.network.protocol == "bgp" else []
+        names += [ALL] if any(one.sort in TIE_SORTS for one in found) else []
     if folder:
         found += doubts_of_folder(text.network, folder)
+    programs = identities(*names)
     print(
-        json.dumps(as_json(name, found, program.identity), indent=1)
+        json.dumps(as_json(name, found, programs), indent=1)
         if arguments.json
-        else "\n".join([*as_text(name, found), "", judged_by(program.identity)])
+        else "\n".join([*as_text(name, found), "", *judged_by_each(programs)])
     )
 
 
-def chosen(text: Asked, numbers: list[Wanted] | None) -> list[int]:
-    """The classes that are asked for: all, where none is named. Refused where there is no such class."""
-    wanted = numbers or [one.number for one in text.classes]
-    return list(dict.fromkeys(class_of(text.classes, one, text.name).number for one in wanted))
-
-
-def as_json(name: str, found: list[Doubt], program: Identity) -> dict[str, object]:
+def as_json(name: str, found: list[Doubt], programs: Mapping[str, Identity]) -> dict[str, object]:
     """The doubts as one object."""
-    return {"form": 1, "program": program.plain, "input": name, "doubts": [_one_json(one) for one in found]}
+    return {
+        "form": 1,
+        "program": programs[BONSAI].plain,
+        "programs": {each: program.plain for each, program in programs.items()},
+        "input": name,
+        "doubts": [_one_json(one) for one in found],
+    }
 
 
 def as_text(name: str, found: list[Doubt]) -> Iterator[str]:

@@ -235,13 +235,18 @@ def _node(node: Node, colors: dict[int, str]) -> dict[str, str]:
     marks = [mark for mark, holds in (("originates", node.group.is_origin), ("lone", node.group.is_lone)) if holds]
     tip = f"group {node.group.number}{''.join(f', {mark}' for mark in marks)}: {_told(node.members)}"
     return {
-        "label": node.name if len(node.members) == 1 else _names(node.members),
+        "label": label_of(node),
         "fillcolor": colors[node.group.number],
         "peripheries": "2" if node.group.is_origin else "1",
         "style": "filled,rounded,dashed" if node.group.is_lone else "filled,rounded",
         "tooltip": tip,
         "class": f"group-{node.group.number}",
     }
+
+
+def label_of(node: Node) -> str:
+    """What stands in a node, lines with Graphviz's mark between them."""
+    return node.name if len(node.members) == 1 else _names(node.members)
 
 
 def _told(members: tuple[str, ...]) -> str:

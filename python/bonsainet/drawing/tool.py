@@ -5,15 +5,18 @@ import argparse
 import os
 import struct
 import zlib
+from collections.abc import Callable
+from typing import Any
 
 import graphviz
 
 from bonsainet.ask.accepted import a_class, add_text
 from bonsainet.cli.command_line import Refused, name_of, one_line, parser, printable, read_input, write_output
-from bonsainet.configs.compressed import Asked, Compressed, asked
+from bonsainet.configs.compressed import Asked, Compressed, asked, class_said
 from bonsainet.drawing.graph import Graph, large, large_by_groups, small
 from bonsainet.drawing.layout import laid_out, picture
-from bonsainet.ask.program import Program
+from bonsainet.ask.program import BONSAI, named
+from bonsainet.ask.shares import side_by_side
 
 ROUTERS_DRAWN = 150
 LINKS_DRAWN = 600
@@ -54,13 +57,20 @@ def main(argv: list[str] | None = None) -> None:
 def work(arguments: argparse.Namespace) -> None:
     """Draws what the words ask for."""
     form = arguments.format or format_of(arguments.output)
-    program = Program()
-    text = asked(program, read_input(arguments.file), name_of(arguments.file), [arguments.number])
-    found = text.compress(program, arguments.number)
+    program = named(BONSAI)
+    raw, number = read_input(arguments.file), arguments.number
+    works: list[Callable[[], Any]] = [
+        lambda: asked(program, raw, name_of(arguments.file)),
+        lambda: program.identity,
+        # (a class that is named by its number is asked while the text is read)
+        lambda: class_said(program, raw, number) if isinstance(number, int) else None,
+    ]
+    text, identity, said = side_by_side(lambda work: work(), works, len(works))
+    found = text.compress(program, number, said)
     if found.refusal and arguments.part != "before":
         raise Refused(f"bonsai compress: {found.refusal}: the network before can be drawn with --part before")
     drawn = picture(graphs(text, found, arguments.part, arguments.by_groups), title(text, found), found.groups)
-    write(drawn, form, arguments.output, arguments.file, f"bonsai-draw, by {program.identity.told}")
+    write(drawn, form, arguments.output, arguments.file, f"bonsai-draw, by {identity.told}")
 
 
 def graphs(text: Asked, found: Compressed, part: str = "both", by_groups: bool = False) -> list[Graph]:

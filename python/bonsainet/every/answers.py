@@ -1,103 +1,115 @@
 """The answers of a folder: each stands under its name only when it is whole, with its length and checksum in a file beside it.
 
-A job writes to a file of another name, and ends by a mark. What has the mark is whole: the mark goes, and the file gets its name.
+A job writes frames, as bonsai-all does: each says how long it is, so what is there of one that was cut is no answer.
 """
 from __future__ import annotations
 
+import hashlib
 import os
+import threading
+from collections.abc import Callable
 from pathlib import Path
+from typing import IO
 
+from bonsainet.ask.frames import Frame, frames_in
+from bonsainet.ask.program import Status
 from bonsainet.ask.where import sum_of
-from bonsainet.cli.command_line import not_written
-from bonsainet.every.plan import ANSWERS, Plan
+from bonsainet.cli.command_line import writing
+from bonsainet.every.plan import ANSWERS, Plan, put
 
 ENDS = {"compress": "cfg", "canon": "cfg", "json": "json"}
-MARK = "bonsai-every: class {number} is whole"
 HEAD = "class\tbytes\tsha256\n"
+# (what jobs leave that were killed: frames of a range, and answers on their way through `--then`)
+LEFT = ("class-*.part", "class-*.part.*", "class-*.small", "class-*.made", "class-*.made.err")
 
 
-def answer_of(folder: Path, made: Plan, number: int) -> Path:
-    """The file with the answer for a class that was asked."""
-    return folder / f"class-{number}.{'out' if made.then else ENDS.get(made.command, 'txt')}"
+class Answers:
+    """The answers of a plan in a folder."""
 
+    def __init__(self, folder: Path, made: Plan) -> None:
+        self.folder, self.made = folder, made
+        self.lock = threading.Lock()
+        self.done = _kept(self)
+        self.failed: set[int] = set()
 
-def part_name(made: Plan, number: int | str) -> str:
-    """The name of the file that a job writes to."""
-    return f"class-{number}.{'out' if made.then else ENDS.get(made.command, 'txt')}.part"
+    @property
+    def left(self) -> list[int]:
+        """The classes that have neither an answer nor failed."""
+        return [each for each in range(1, self.made.classes + 1) if each not in self.done and each not in self.failed]
 
+    def place(self, number: int) -> Path:
+        """The file with the answer for a class."""
+        end = "out" if self.made.then else ENDS.get(self.made.command, "txt")
+        return self.folder / f"class-{number}.{end}"
 
-def kept(folder: Path, made: Plan) -> set[int]:
-    """The classes whose answer is there as it was when it was whole."""
-    found = set()
-    for number, told in _told(folder).items():
-        answer = answer_of(folder, made, number)
-        if number in made.asked and answer.is_file() and told == _line_of(answer):
-            found.add(number)
-    return found
+    def take(self, frame: Frame) -> None:
+        """Puts an answer in its place and notes it, or keeps what a class that failed wrote to standard error."""
+        if frame.status != Status.DONE:
+            self.fail(frame.number, frame.written)
+            return
+        place = self.place(frame.number)
+        put(place, frame.written)
+        self._note(frame.number, f"{len(frame.written)}\t{hashlib.sha256(frame.written).hexdigest()}")
+        Path(f"{place}.err").unlink(missing_ok=True)
+        with self.lock:
+            self.done.add(frame.number)
 
+    def fail(self, number: int, told: bytes) -> None:
+        """Keeps why a class has no answer."""
+        place = self.place(number)
+        place.unlink(missing_ok=True)
+        if told:
+            put(Path(f"{place}.err"), told)
+        with self.lock:
+            self.failed.add(number)
 
-def collect(folder: Path, made: Plan) -> None:
-    """Gives each answer that is whole its name, and removes what jobs left of others."""
-    there = {path.name for path in folder.iterdir()}
-    for number in made.asked:
-        part = folder / part_name(made, number)
+    def take_all(self, stream: IO[bytes], first: int, last: int, advance: Callable[[int], None]) -> str:
+        """Takes the frames of a job that asks for a range of classes. Says why a stream is no such frames, or nothing."""
         try:
-            if part.name in there and _take(part, answer_of(folder, made, number), number):
-                _note(folder, number, answer_of(folder, made, number))
-            part.unlink(missing_ok=True)
-            Path(f"{part}.seq").unlink(missing_ok=True)
-        except OSError as fault:
-            raise not_written(part, fault) from None
+            for frame in frames_in(stream):
+                if not first <= frame.number <= last:
+                    return f"bonsai-all answered for class {frame.number}, and was asked for {first} to {last}"
+                self.take(frame)
+                advance(1)
+        except ValueError as fault:
+            return str(fault)
+        return ""
+
+    def end(self, first: int, last: int, told: bytes) -> None:
+        """A job has ended. Where it left out classes, the first of them has failed, and this is why."""
+        left = [number for number in self.left if first <= number <= last]
+        if left:
+            self.fail(left[0], told)
+
+    def _note(self, number: int, line: str) -> None:
+        """Notes the length and the checksum of an answer."""
+        place = self.folder / ANSWERS
+        with self.lock, writing(place), open(place, "a+b") as file:
+            size = file.seek(0, os.SEEK_END)
+            file.seek(max(0, size - 1))
+            is_cut = size > 0 and file.read(1) != b"\n"
+            head = "\n" if is_cut else "" if size else HEAD
+            file.write(f"{head}{number}\t{line}\n".encode("ascii"))
 
 
-def tidy(folder: Path, made: Plan) -> None:
-    """Leaves of each class that failed what it wrote to standard error, if anything, and of the others nothing but the answer."""
-    done = kept(folder, made)
-    for number in made.asked:
-        answer = answer_of(folder, made, number)
-        told, own = Path(f"{folder / part_name(made, number)}.err"), Path(f"{answer}.err")
-        if number in done or not told.exists() or not told.stat().st_size:
-            told.unlink(missing_ok=True)
-        else:
-            os.replace(told, own)
-        if number in done:
-            own.unlink(missing_ok=True)
-        else:
-            answer.unlink(missing_ok=True)
+def tidy(folder: Path, *patterns: str) -> None:
+    """Removes what jobs left that were killed."""
+    for pattern in patterns or LEFT:
+        for path in folder.glob(pattern):
+            path.unlink(missing_ok=True)
 
 
-def _take(part: Path, answer: Path, number: int) -> bool:
-    """Gives an answer its name, if it ends by the mark, without it."""
-    mark = MARK.format(number=number).encode()
-    with open(part, "r+b") as file:
-        length = file.seek(0, os.SEEK_END) - len(mark)
-        if length < 0:
-            return False
-        file.seek(length)
-        if file.read() != mark:
-            return False
-        file.truncate(length)
-        os.fsync(file.fileno())
-    os.replace(part, answer)
-    return True
-
-
-def _note(folder: Path, number: int, answer: Path) -> None:
-    """Notes the length and the checksum of an answer."""
-    place = folder / ANSWERS
-    is_begun = place.exists() and place.stat().st_size > 0
-    is_cut = is_begun and not place.read_bytes().endswith(b"\n")
-    with open(place, "a", encoding="ascii") as file:
-        file.write(("\n" if is_cut else "") + ("" if is_begun else HEAD) + f"{number}\t{_line_of(answer)}\n")
-
-
-def _line_of(answer: Path) -> str:
-    return f"{answer.stat().st_size}\t{sum_of(answer)}"
-
-
-def _told(folder: Path) -> dict[int, str]:
-    """What was noted of each class last. A line that was cut says nothing."""
-    place = folder / ANSWERS
+def _kept(answers: Answers) -> set[int]:
+    """The classes whose answer is there as it was when it was whole."""
+    place = answers.folder / ANSWERS
     lines = place.read_text("ascii", "replace").splitlines() if place.exists() else []
-    told = (line.partition("\t") for line in lines)
-    return {int(number): rest for number, _, rest in told if number.isdigit() and rest.count("\t") == 1}
+    # (a line that was cut says nothing, and of several the last counts)
+    split = (line.partition("\t") for line in lines)
+    told = {int(number): rest for number, _, rest in split if number.isdigit() and rest.count("\t") == 1}
+    found = set()
+    for number, rest in told.items():
+        answer = answers.place(number)
+        if number <= answers.made.classes and answer.is_file():
+            if rest == f"{answer.stat().st_size}\t{sum_of(answer)}":
+                found.add(number)
+    return found

@@ -29,7 +29,7 @@ RULES = {
     "no-switchport": "A port of a switch takes an address only after `no switchport`.",
     "ip-routing": "A switch routes only after `ip routing`.",
     "cost": "IOS takes its default cost from the bandwidth of the interface, so each interface in the area gets its cost by a line.",
-    "point-to-point": "Two ends of a wire need no designated router, for which IOS waits 40 seconds; a loopback of a shorter mask than /32 is announced as /32 but for this line.",
+    "point-to-point": "Two ends of a wire need no designated router, for which IOS waits 40 seconds; a loopback of a shorter mask than /32 is announced as /32 without this line.",
     "new-format": "Communities are shown as A:B only after `ip bgp-community new-format`.",
     "range": "IOS refuses a range whose `ge` is the length of the prefix.",
     "entry-number": "IOS numbers the entries of a prefix list up to 4294967294.",

@@ -21,7 +21,7 @@ from bonsainet.cli.words import counted
 
 
 def main(argv: list[str] | None = None) -> int:
-    """Writes one configuration for each router of a text, in the syntax of a target, and tells what it changed."""
+    """Writes one configuration for each router of a text, in the syntax of a target, and reports what it changed."""
     made = parser(
         "bonsai-export",
         main.__doc__ or "",

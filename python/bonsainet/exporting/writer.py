@@ -1,4 +1,4 @@
-"""How an exporter writes: each line with the line that caused it, so that what changed is told by place, rule and
+"""How an exporter writes: each line with the line that caused it, so that what changed is reported by place, rule and
 reason."""
 from __future__ import annotations
 

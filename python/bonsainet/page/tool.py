@@ -11,14 +11,14 @@ import jinja2
 from bonsainet.ask.accepted import add_text
 from bonsainet.cli.command_line import Refused, name_of, parser, read_input, version, write_output
 from bonsainet.configs.compressed import asked
-from bonsainet.doubts.ties import ties_by_class
+from bonsainet.doubts.ties import TiesAsked
 from bonsainet.importing.report import FAILED, TITLES
+from bonsainet.page.answers import AnswersAsked
 from bonsainet.page.build import Rows, everything
-from bonsainet.ask.program import Program
+from bonsainet.ask.program import ALL, ASK, BONSAI, identities, named
 
 
 LONGEST_REPORT = 1 << 30
-AT_A_TIME = 64
 
 
 def words() -> argparse.ArgumentParser:
@@ -33,6 +33,16 @@ def words() -> argparse.ArgumentParser:
     )
     made.add_argument("--no-ties", action="store_true", help="do not ask which routers hold a tied route")
     made.add_argument(
+        "--no-answers",
+        action="store_true",
+        help="do not ask whether all routers have a route, how many stable solutions there are, and what routers hold",
+    )
+    made.add_argument(
+        "--failing",
+        choices=("links", "routers"),
+        help="ask also which links or routers cut a router off where they fail, one at a time",
+    )
+    made.add_argument(
         "-o", "--output", metavar="FILE", default="-", help="where the page is written (default: - for standard output)"
     )
     return made
@@ -45,16 +55,23 @@ def main(argv: list[str] | None = None) -> None:
 
 def work(arguments: argparse.Namespace) -> None:
     """Writes the page."""
-    program = Program()
     told = read_report(arguments.import_report) if arguments.import_report else None
-    text = asked(program, read_input(arguments.file), name_of(arguments.file))
-    has_ties = not arguments.no_ties
+    text = asked(named(BONSAI), read_input(arguments.file), name_of(arguments.file))
     rows, numbers = Rows(text), [each.number for each in text.classes]
-    for first in range(0, len(numbers), AT_A_TIME):
-        of = range(first, len(numbers))
-        found = text.compress_each(program, numbers[first : first + AT_A_TIME], "bonsai-page", of)
-        rows.add(found, lambda new: ties_by_class(program, text, new) if has_ties else {})
-    page = html(everything(text, rows.all, told, program.identity, has_ties))
+    has_ties = bool(numbers) and not arguments.no_ties and text.network.protocol == "bgp"
+    ties = TiesAsked(named(BONSAI), text, numbers) if has_ties else None
+    has_answers = bool(numbers) and not arguments.no_answers
+    answers = AnswersAsked(text, numbers, arguments.failing) if has_answers else None
+    for found in text.compress_some(numbers):
+        rows.add(
+            found,
+            lambda new: ties.by_class(new) if ties else {},
+            lambda new: answers.by_class(new) if answers else {},
+        )
+    asked_of = [ALL] * bool(numbers) + [ASK] * (has_ties or has_answers)
+    programs = identities(BONSAI, *asked_of)
+    late = ties.met.told_of_late if ties and ties.met.late else None
+    page = html(everything(text, rows.all, told, programs, has_ties, late))
     write_output(arguments.output, page.encode(), arguments.file)
 
 

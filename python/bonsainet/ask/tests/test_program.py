@@ -1,5 +1,5 @@
 """What the program writes is read as plain data."""
-from bonsainet.ask.program import Class, Group, Size, classes_of, groups_of, sizes_of
+from bonsainet.ask.program import Class, Group, Size, classes_of, groups_of, sizes_of, with_places
 
 
 def test_classes() -> None:
@@ -19,3 +19,8 @@ def test_groups() -> None:
 
 def test_sizes() -> None:
     assert sizes_of("class 1: 20 routers 32 links 6 groups 5 links\n") == [Size(1, 20, 32, 6, 5)]
+
+
+def test_a_text_is_named_once() -> None:
+    assert with_places(["F", "1", "route", "F,S", "F"], {"F": "/1", "S": "/2"}) == ["/1", "1", "route", "F,S", "F"]
+    assert with_places(["check", "F", "1", "S"], {"F": "/1", "S": "/2"}) == ["check", "/1", "1", "/2"]

@@ -11,7 +11,7 @@ import pytest
 
 from bonsainet.ask.program import TOP, Program
 from bonsainet.ask.where import without_notices
-from bonsainet.asking.shares import ranges
+from bonsainet.ask.shares import ranges
 from bonsainet.nets.fat_tree import fat_tree_text
 
 INPUTS = TOP / "examples" / "inputs"
@@ -115,5 +115,5 @@ def test_classes_shared_out_are_answered_as_by_one_call(tmp_path: Path) -> None:
 
 @pytest.mark.parametrize("count, jobs", [(1, 4), (65, 4), (200, 3), (800, 7)])
 def test_ranges_have_each_class_once(count: int, jobs: int) -> None:
-    found = [number for first, last in ranges(count, jobs) for number in range(first, last + 1)]
+    found = [number for first, last in ranges(range(1, count + 1), jobs) for number in range(first, last + 1)]
     assert found == list(range(1, count + 1))

@@ -6,7 +6,8 @@ from collections.abc import Iterator
 from hypothesis import given, settings
 from hypothesis import strategies as st
 
-from bonsainet.asking.ways import Nexts, chain_line, interfaces_of, longest_way, way_lines, way_to
+from bonsainet.ask.program import TOP
+from bonsainet.asking.ways import Nexts, carriers_of, chain_line, interfaces_of, longest_way, way_lines, way_to
 from bonsainet.configs.network import read_network
 
 SQUARE: Nexts = {"a": ("b", "c"), "b": ("d",), "c": ("d",), "d": (), "e": None}
@@ -46,9 +47,9 @@ def test_the_longest_way(nexts: Nexts) -> None:
 
 
 def test_lines() -> None:
-    over = {("a", "b"): ["e1 > e2"], ("a", "c"): ["e3 > e4", "e5 > e6"]}
+    over = {("a", "b"): "e1 > e2", ("a", "c"): "e3 > e4 and e5 > e6"}
     assert way_lines(SQUARE, "a", over) == [
-        "  a to b (e1 > e2), c (e3 > e4 or e5 > e6)",
+        "  a to b (e1 > e2), c (e3 > e4 and e5 > e6)",
         "  b to d",
         "  c to d",
         "  d here",
@@ -68,3 +69,31 @@ def test_interfaces() -> None:
         ("a", "b"): ["Ethernet1 > Ethernet2"],
         ("b", "a"): ["Ethernet2 > Ethernet1"],
     }
+
+
+OSPF = "router ospf 1\n network 10.0.0.0 0.255.255.255 area 0\nend\n"
+
+
+def three_links(name: str, end: int, costs: tuple[int, int, int]) -> str:
+    """A router of OSPF at one end of three links, with its costs."""
+    links = (
+        f"interface Ethernet{at}\n ip address 10.0.{at}.{end} 255.255.255.252\n ip ospf cost {cost}\n"
+        for at, cost in enumerate(costs)
+    )
+    return f"hostname {name}\n{''.join(links)}{OSPF}"
+
+
+def test_of_several_links_those_of_least_cost_carry() -> None:
+    network = read_network(three_links("a", 1, (5, 9, 5)) + three_links("b", 2, (7, 1, 7)))
+    assert carriers_of(network) == {
+        ("a", "b"): "Ethernet0 > Ethernet0 and Ethernet2 > Ethernet2",
+        ("b", "a"): "Ethernet1 > Ethernet1",
+    }
+
+
+def test_of_several_sessions_one_or_more_carry() -> None:
+    text = (TOP / "examples/inputs/asking/failing-parallel.cfg").read_text()
+    first, second = (f"GigabitEthernet0/{at} > GigabitEthernet0/{at}" for at in (0, 1))
+    carriers = carriers_of(read_network(text))
+    assert carriers["b", "a"] == f"one or more of {first}, {second}"
+    assert carriers["c", "b"] == "GigabitEthernet0/0 > GigabitEthernet0/2"

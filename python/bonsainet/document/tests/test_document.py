@@ -7,17 +7,20 @@ import pytest
 from hypothesis import given, settings
 from hypothesis import strategies as st
 
+from bonsainet.configs import compressed as compressed_classes
 from bonsainet.configs.compressed import asked
 from bonsainet.document import tool as document_tool
 from bonsainet.document.build import document
 from bonsainet.document.tool import check
 from bonsainet.doubts.tests.test_ties import SETS, text_of
 from bonsainet.drawing.graph import large, large_by_groups, small
-from bonsainet.ask.program import Program
+from bonsainet.ask.program import ALL, BONSAI, Program, identities, named
+from bonsainet.ask.where import Identity
 from bonsainet.nets.campus import campus_text
 from bonsainet.nets.random_networks import random_text
 from bonsainet.tests.asking import bytes_of, compressed, example, place_of, tool
 
+PROGRAMS = {BONSAI: Identity("0" * 64, False, None)}
 NAMES = [
     "campus.cfg",
     "fabric.cfg",
@@ -31,7 +34,7 @@ NAMES = [
 
 def made(name: str) -> dict:
     text = example(name)
-    return document(text, [compressed(name, found.number) for found in text.classes], Program().identity)
+    return document(text, [compressed(name, found.number) for found in text.classes], PROGRAMS)
 
 
 def members(whole: dict, group: dict) -> list[str]:
@@ -75,7 +78,7 @@ def test_random_networks(seed: int) -> None:
     text = asked(Program(), raw, "F")
     for number in range(1, min(3, len(text.classes)) + 1):
         each = text.compress(Program(), number)
-        whole = document(text, [each], Program().identity)
+        whole = document(text, [each], PROGRAMS)
         found = whole["classes"][0]
         told = json.loads(Program().done("json", "F", str(number), texts={"F": raw}))
         assert (found["routers"], found["links"]) == (told["routers"], told["links"])
@@ -107,8 +110,8 @@ def test_names_stand_once_however_many_the_classes_are() -> None:
     """What a class adds for a router is a number, so of twice the routers a class is twice as long, and no more."""
     lengths = []
     for access in (8, 16, 32):
-        text = asked(Program(), campus_text(4, access).encode(), "F", [1, 2])
-        told = json.dumps(document(text, text.compress_each(Program(), [1, 2]), Program().identity))
+        text = asked(Program(), campus_text(4, access).encode(), "F")
+        told = json.dumps(document(text, list(text.compress_each([1, 2])), PROGRAMS))
         assert all(told.count(f'"{name}"') == 1 for name in text.network.by_name)
         one = json.dumps(json.loads(told)["classes"][1]["groups"])
         lengths.append(len(one) / len(text.network.by_name))
@@ -164,20 +167,21 @@ def test_ties_are_no_matter_of_ospf() -> None:
 @pytest.mark.parametrize("name", ["campus.cfg", "two-routers.cfg", "full-mesh.cfg"])
 @pytest.mark.parametrize("indent", [None, 1])
 def test_pieces_are_the_whole(name: str, indent: int | None, monkeypatch: pytest.MonkeyPatch) -> None:
-    monkeypatch.setattr(document_tool, "AT_A_TIME", 3)
-    text, program = example(name), Program()
+    monkeypatch.setattr(compressed_classes, "AT_A_TIME", 3)
+    text = example(name)
     numbers = [found.number for found in text.classes]
     for chosen in (numbers, numbers[:1], []):
-        found = text.compress_each(program, chosen)
-        whole = json.dumps(document(text, found, program.identity), indent=indent)
-        assert "".join(document_tool.pieces(text, program, chosen, indent, False, False)) == whole
+        found = list(text.compress_each(chosen))
+        programs = identities(BONSAI, *([ALL] if chosen else []))
+        whole = json.dumps(document(text, found, programs), indent=indent)
+        assert "".join(document_tool.pieces(text, chosen, indent, False, False)) == whole
 
 
 def test_nothing_is_written_where_a_class_fails(tmp_path: Path) -> None:
     failing = tmp_path / "failing"
     failing.write_text(
-        f'#!/bin/sh\n[ "$1 $3" = "compress 9" ] && {{ echo "out of memory" >&2; exit 5; }}\nexec {Program().path} "$@"\n'
+        f'#!/bin/sh\n[ "$2 $3" = "compress 9" ] && {{ echo "out of memory" >&2; exit 5; }}\nexec {named(ALL).path} "$@"\n'
     )
     failing.chmod(0o755)
-    ran = tool("bonsai-json", place_of("campus.cfg"), env={**os.environ, "BONSAI_PROGRAM": str(failing)})
+    ran = tool("bonsai-json", place_of("campus.cfg"), env={**os.environ, "BONSAI_ALL_PROGRAM": str(failing)})
     assert (ran.returncode, ran.stdout) == (1, b"") and b"out of memory" in ran.stderr

@@ -119,6 +119,20 @@ def test_no_secret_is_told() -> None:
         ),
         (" encapsulation dot1Q 100\n", " encapsulation dot1Q 100\n", None),
         (" encapsulation dot1Q 100\n", "", None),
+        (
+            " encapsulation dot1Q 100 native\n",
+            " encapsulation dot1Q 100\n",
+            "the tag of frames is 100 here and 100 native on Serial0/0 of a",
+        ),
+        (" speed 100\n", " speed 1000\n", "the speed is 1000 Mbit/s here and 100 Mbit/s on Serial0/0 of a"),
+        (" speed 100\n", " speed auto\n", None),
+        (" speed 100\n", " speed auto 10 100\n", None),
+        (
+            " ip ospf authentication message-digest\n",
+            " ip ospf authentication message-digest\n ip ospf message-digest-key 1 md5 one\n",
+            "a key is given here and none on Serial0/0 of a",
+        ),
+        (" ip ospf authentication key-chain A\n", " ip ospf authentication key-chain B\n", None),
         (" encapsulation ppp\n", "", "the encapsulation is ppp here and hdlc on Serial0/0 of b"),
         (" encapsulation ppp\n", " encapsulation ppp\n", None),
         (" encapsulation hdlc\n", "", None),
@@ -127,6 +141,38 @@ def test_no_secret_is_told() -> None:
 def test_links(near: str, far: str, told: str | None) -> None:
     ends = found(OSPF.format("a", 1, near) + OSPF.format("b", 2, far))
     assert [one[3] for one in ends] == ([f"{told}: real routers form no link"] if told else [])
+
+
+@pytest.mark.parametrize(
+    "near, far, is_doubted",
+    [
+        ("active", "passive", False),
+        ("passive", "passive", True),
+        ("on", "active", True),
+        ("on", "on", False),
+        ("auto", "desirable", False),
+        ("auto", "auto", True),
+        ("active", "desirable", True),
+    ],
+)
+def test_bundles(near: str, far: str, is_doubted: bool) -> None:
+    member = "interface GigabitEthernet1/1\n channel-group 1 mode {0}\ninterface Port-channel1\n ip ospf cost 5\n"
+    texts = [
+        form.replace("interface Serial0/0\n", member.format(mode))
+        for form, mode in ((OSPF.format("a", 1, ""), near), (OSPF.format("b", 2, ""), far))
+    ]
+    told = f"its ports have the mode {far} here and {near} at Port-channel1 of a: they make no bundle, and real routers form no link"
+    assert [one[3] for one in found("".join(texts))] == ([told] if is_doubted else [])
+
+
+def test_a_subinterface_has_the_mtu_of_its_carrier() -> None:
+    carried = "interface Serial0/0\n mtu 9000\ninterface Serial0/0.10\n encapsulation dot1Q 10\n"
+    near = OSPF.format("a", 1, "").replace("interface Serial0/0\n", carried)
+    assert [one[3].partition(":")[0] for one in found(near + OSPF.format("b", 2, ""))] == [
+        "the MTU is 9000 here and 1500 on Serial0/0 of b"
+    ]
+    far = OSPF.format("b", 2, "").replace("interface Serial0/0\n", carried)
+    assert not found(near + far)
 
 
 NO_BGP = "ip access-list extended F\n deny tcp any any eq bgp\n deny tcp any eq bgp any\n permit ip any any\n"

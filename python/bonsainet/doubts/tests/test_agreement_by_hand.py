@@ -18,6 +18,9 @@ OSPF = "interface eth0\n ip address 10.0.0.{1}/30\n ip ospf hello-interval 1\n i
 BGP = "interface eth0\n ip address 10.0.0.{1}/30\nexit\nrouter bgp 6500{1}\n no bgp ebgp-requires-policy\n neighbor 10.0.0.{2} remote-as 6500{2}\n neighbor 10.0.0.{2} timers 1 3\n neighbor 10.0.0.{2} timers connect 1\n{3}exit\n"
 DIGEST = " ip ospf authentication message-digest\n ip ospf message-digest-key {0} md5 {1}\n"
 PLAIN = " ip ospf authentication\n ip ospf authentication-key {0}\n"
+AREA = "exit\nrouter ospf\n area 0 authentication message-digest\nexit\ninterface eth0\n ip ospf message-digest-key 1 md5 one\n"
+IDENTIFIER = " bgp router-id 192.0.2.1\n"
+LEAST = " bgp minimum-holdtime {0}\n"
 CASES = {
     "hello intervals": ("ospf", " ip ospf hello-interval 1\n", " ip ospf hello-interval 2\n", 0, False),
     "dead intervals": ("ospf", "", " ip ospf dead-interval 5\n", 0, False),
@@ -26,12 +29,20 @@ CASES = {
     "numbers of keys": ("ospf", DIGEST.format(1, "one"), DIGEST.format(2, "one"), 0, False),
     "keys of message-digest": ("ospf", DIGEST.format(1, "one"), DIGEST.format(1, "two"), 0, False),
     "equal keys": ("ospf", DIGEST.format(1, "one"), DIGEST.format(1, "one"), 0, True),
+    "authentication of the area at one end": ("ospf", AREA, "", 0, False),
+    "authentication of the area at both ends": ("ospf", AREA, AREA, 0, True),
+    "authentication of the area and of an interface": ("ospf", AREA, DIGEST.format(1, "one"), 0, True),
+    "a key at one end": ("ospf", " ip ospf authentication message-digest\n", DIGEST.format(1, "one"), 0, False),
+    "a plain key at one end": ("ospf", " ip ospf authentication\n", PLAIN.format("one"), 0, False),
     "MTU": ("ospf", "", "", 1400, False),
     "OSPF that agrees": ("ospf", "", "", 0, True),
     "passwords": ("bgp", " neighbor 10.0.0.2 password one\n", " neighbor 10.0.0.1 password two\n", 0, False),
     "password at one end": ("bgp", " neighbor 10.0.0.2 password one\n", "", 0, False),
     "equal passwords": ("bgp", " neighbor 10.0.0.2 password one\n", " neighbor 10.0.0.1 password one\n", 0, True),
     "both passive": ("bgp", " neighbor 10.0.0.2 passive\n", " neighbor 10.0.0.1 passive\n", 0, False),
+    "a hold time that is too short": ("bgp", LEAST.format(30), "", 0, False),
+    "a hold time that is long enough": ("bgp", LEAST.format(3), "", 0, True),
+    "one identifier": ("bgp", IDENTIFIER, IDENTIFIER, 0, True),
     "one passive": ("bgp", " neighbor 10.0.0.2 passive\n", "", 0, True),
 }
 

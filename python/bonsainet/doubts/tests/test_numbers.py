@@ -9,9 +9,7 @@ from bonsainet.ask.program import Program
 
 def told(text: str) -> list[tuple[str, str]]:
     network = asked(Program(), text.encode(), "F")
-    return [
-        (one.router, one.told) for one in doubts_of_numbers(Program(), network, [one.number for one in network.classes])
-    ]
+    return [(one.router, one.told) for one in doubts_of_numbers(network, [one.number for one in network.classes])]
 
 
 def shared(text: str, *numbers: int) -> str:

@@ -17,7 +17,7 @@ from bonsainet.configs.compressed import asked
 from bonsainet.drawing import layout
 from bonsainet.drawing.graph import small
 from bonsainet.drawing.layout import LONGEST_TIP, NotLaidOut, laid_out, picture
-from bonsainet.page import build
+from bonsainet.page import build, pictures
 from bonsainet.tests.asking import bytes_of, example, tool
 
 pytestmark = pytest.mark.skipif(
@@ -65,21 +65,23 @@ def test_only_the_class_that_is_drawn_is_asked(program: Program) -> None:
         commands: list[str] = []
 
         def ask(self, *words: str, **more: Any) -> Answer:
-            self.commands.append(words[0])
+            self.commands.append(" ".join(words))
             return super().ask(*words, **more)
 
     counting = Counting(program.path)
-    text = asked(counting, bytes_of("campus.cfg"), "campus.cfg", [3])
-    assert "summary" not in counting.commands and text.sizes[3] == example("campus.cfg").sizes[3]
+    found = asked(counting, bytes_of("campus.cfg"), "campus.cfg").compress(counting, 3)
+    assert sorted(counting.commands) == ["classes F", "compress F 3", "report F 3"]
+    (other,) = example("campus.cfg").compress_each([3])
+    assert found.without_network() == other.without_network() and found.shape_sum == other.shape_sum
 
 
 def test_a_picture_that_graphviz_refuses_is_left_out_of_the_page(monkeypatch: pytest.MonkeyPatch) -> None:
     def refuse(_drawn: graphviz.Graph, _form: str) -> bytes:
         raise NotLaidOut("the program dot failed: no")
 
-    monkeypatch.setattr(build, "laid_out", refuse)
+    monkeypatch.setattr(pictures, "laid_out", refuse)
     text = example("campus.cfg")
-    shown = build.everything(text, build.rows(text, text.compress_each(Program(), [1, 2])), None, Program().identity)
+    shown = build.everything(text, build.rows(text, list(text.compress_each([1, 2]))), None, {})
     assert shown["large"] == "" and {row.left_out for row in shown["rows"]} == {"the program dot failed: no"}
 
 

@@ -4,7 +4,6 @@ from __future__ import annotations
 import hashlib
 import json
 import os
-import shutil
 import signal
 import subprocess
 from collections.abc import Callable, Iterator
@@ -12,14 +11,11 @@ from pathlib import Path
 
 import pytest
 
-from bonsainet.ask.program import TOP, Program
+from bonsainet.ask.program import ALL, TOP, Program, named
 from bonsainet.nets.fat_tree import fat_tree_text
 from bonsainet.tests.asking import LATEST, place_of, tool, wait_for
 
-pytestmark = pytest.mark.skipif(
-    not shutil.which("parallel"), reason="the package parallel is not there: bonsai-every is not tried"
-)
-FEW = ["--each", "--jobs", "2"]
+FEW = ["--jobs", "2"]
 
 
 @pytest.fixture(name="text", scope="module")
@@ -53,7 +49,7 @@ def small_disk_fixture(tmp_path: Path) -> Iterator[Callable[[int], Path]]:
 def must_be_whole(folder: Path, text: Path, count: int) -> None:
     """Each answer that is there is that of the program, and `count` are there."""
     found = list(folder.glob("class-*.cfg"))
-    program = Program(str(folder / "bonsai"))
+    program = Program()
     assert len(found) >= count
     for answer in found[:: max(1, len(found) // 4)]:
         assert answer.read_text() == program.compress(text.read_bytes(), int(answer.stem.split("-")[1]))
@@ -65,7 +61,7 @@ def test_a_disk_that_gets_full(small_disk: Callable[[int], Path], text: Path, tm
     assert tool("bonsai-every", text, tmp_path / "whole", *FEW).returncode == 0
     whole = taken(tmp_path / "whole")
     before = whole - taken(tmp_path / "whole", "class-*")
-    program = Path(Program().path).stat().st_size // 1024
+    program = Path(named(ALL).path).stat().st_size // 1024
     plan = before - program
     for size in (
         plan // 4,
@@ -92,7 +88,7 @@ def test_a_run_that_could_not_write_its_plan(words: list[str], tmp_path: Path) -
     folder.mkdir()
     for name in ("lock", "input.cfg", ".bonsai-0123.part"):
         (folder / name).write_bytes(b"half")
-    ran = tool("bonsai-every", place, folder, "--each", *words)
+    ran = tool("bonsai-every", place, folder, *words)
     begins = f"bonsai-every: {folder}: no plan.json is there, so no class was asked: the run begins with the first\n"
     assert ran.returncode == 0
     assert ran.stderr.decode() == (begins if words else "") + "bonsai-every: 2 of 2 answered\n"
@@ -105,8 +101,9 @@ def test_answers_without_a_plan_are_not_asked_again_in_silence(plan: str | None,
     (tmp_path / "class-1.cfg").write_text("kept\n")
     if plan is not None:
         (tmp_path / "plan.json").write_text(plan)
-    for more, told in (("--each", "the folder is not empty"), ("--resume", "nothing to resume: ")):
-        ran = tool("bonsai-every", place, tmp_path, "--each", more)
+    words: list[tuple[list[str], str]] = [([], "the folder is not empty"), (["--resume"], "nothing to resume: ")]
+    for more, told in words:
+        ran = tool("bonsai-every", place, tmp_path, *more)
         assert ran.returncode == 1 and f"{tmp_path}: {told}" in ran.stderr.decode() and ran.stderr.count(b"\n") == 1
         assert (tmp_path / "class-1.cfg").read_text() == "kept\n"
 
@@ -119,8 +116,8 @@ def taken(folder: Path, pattern: str = "*") -> int:
 def test_a_copy_of_the_program_that_does_not_fit(small_disk: Callable[[int], Path], text: Path) -> None:
     size = text.stat().st_size // 1024 + 100
     ran = tool("bonsai-every", text, small_disk(size) / "all", *FEW)
-    assert ran.returncode == 4 and b"/all/bonsai: No space left on device" in ran.stderr
-    assert not (small_disk(size) / "all/bonsai").exists()
+    assert ran.returncode == 4 and b"/all/bonsai-all: No space left on device" in ran.stderr
+    assert not (small_disk(size) / "all/bonsai-all").exists()
 
 
 @pytest.mark.parametrize("number", [signal.SIGTERM, signal.SIGHUP, signal.SIGKILL, signal.SIGINT])
@@ -128,7 +125,7 @@ def test_ended_and_resumed(number: signal.Signals, text: Path, tmp_path: Path) -
     folder = tmp_path / "all"
     words = [str(TOP / "tools/bonsai-every"), str(text), str(folder), *FEW]
     started = subprocess.Popen(words, stderr=subprocess.DEVNULL, start_new_session=True)
-    wait_for(lambda: len(list(folder.glob("class-*.part"))) > 4)
+    wait_for(lambda: len(list(folder.glob("class-*.cfg"))) > 4)
     started.send_signal(number)
     started.wait(LATEST)
     if number != signal.SIGKILL:
@@ -158,7 +155,7 @@ def test_two_runs_at_once(text: Path, tmp_path: Path) -> None:
     folder, go = tmp_path / "all", tmp_path / "go"
     words = [str(text), str(folder), *FEW, "--then", f"while ! test -e '{go}'; do sleep 0.05; done; cat"]
     started = subprocess.Popen([TOP / "tools/bonsai-every", *words], stderr=subprocess.DEVNULL)
-    wait_for(lambda: list(folder.glob("class-*.part")))
+    wait_for(lambda: list(folder.glob("class-*.small")))
     ran = tool("bonsai-every", *words, "--resume")
     go.touch()
     assert ran.returncode == 1 and b"another run, or the last jobs of one, is at work there" in ran.stderr
@@ -190,7 +187,7 @@ def test_a_foreign_program_in_the_folder_is_not_run(tmp_path: Path) -> None:
     folder, place = tmp_path / "all", place_of("fabric.cfg")
     assert tool("bonsai-every", place, folder, "--jobs", "1").returncode == 0
     before = (folder / "class-1.cfg").read_bytes()
-    (folder / "bonsai").write_text("#!/bin/sh\necho FOREIGN PROGRAM\n")
+    (folder / "bonsai-all").write_text("#!/bin/sh\necho FOREIGN PROGRAM\n")
     (folder / "class-1.cfg").unlink()
     assert tool("bonsai-every", place, folder, "--jobs", "1", "--resume").returncode == 0
     assert (folder / "class-1.cfg").read_bytes() == before
@@ -199,8 +196,7 @@ def test_a_foreign_program_in_the_folder_is_not_run(tmp_path: Path) -> None:
 def test_a_log_that_was_cut(tmp_path: Path) -> None:
     folder, place = tmp_path / "all", place_of("fabric.cfg")
     assert tool("bonsai-every", place, folder, "--jobs", "1").returncode == 0
-    for name in ("jobs.log", "answers.tsv"):
-        os.truncate(folder / name, (folder / name).stat().st_size - 9)
+    os.truncate(folder / "answers.tsv", (folder / "answers.tsv").stat().st_size - 9)
     ran = tool("bonsai-every", place, folder, "--jobs", "1", "--resume")
     assert (ran.returncode, ran.stderr.splitlines()[-1]) == (0, b"bonsai-every: 2 of 2 answered")
     assert tool("bonsai-every", place, folder, "--jobs", "1", "--resume").returncode == 0
@@ -218,9 +214,9 @@ def test_a_folder_of_another_program(tmp_path: Path) -> None:
     place = place_of("fabric.cfg")
     assert tool("bonsai-every", place, tmp_path / "all", "--jobs", "1").returncode == 0
     other = tmp_path / "other"
-    other.write_bytes(Path(Program().path).read_bytes() + b"\0")
+    other.write_bytes(Path(named(ALL).path).read_bytes() + b"\0")
     other.chmod(0o755)
-    env = {**os.environ, "BONSAI_PROGRAM": str(other)}
+    env = {**os.environ, "BONSAI_ALL_PROGRAM": str(other)}
     ran = tool("bonsai-every", place, tmp_path / "all", "--resume", env=env)
     assert ran.returncode == 1 and b"it was begun with another program" in ran.stderr
 
@@ -228,8 +224,8 @@ def test_a_folder_of_another_program(tmp_path: Path) -> None:
 def test_the_plan_says_which_program_answers(tmp_path: Path) -> None:
     assert tool("bonsai-every", place_of("fabric.cfg"), tmp_path / "all", "--jobs", "1").returncode == 0
     told = json.loads((tmp_path / "all/plan.json").read_text())
-    assert told["program"] == hashlib.sha256((tmp_path / "all/bonsai").read_bytes()).hexdigest()
-    assert told["identity"] == Program().identity.plain
+    assert told["program"] == hashlib.sha256((tmp_path / "all/bonsai-all").read_bytes()).hexdigest()
+    assert told["identity"] == named(ALL).identity.plain
 
 
 def test_what_stands_behind_then_is_left_as_it_is(tmp_path: Path) -> None:

@@ -2,6 +2,7 @@
 import os
 import subprocess
 from pathlib import Path
+from types import ModuleType
 
 import pytest
 
@@ -11,7 +12,7 @@ from bonsainet.configs.network import read_network
 from bonsainet.ask.program import TOP, Program
 
 IMPORT = TOP / "tools" / "bonsai-import"
-TARGETS = {"frr": frr, "ios": ios, "batfish": batfish}
+TARGETS: dict[str, ModuleType] = {"frr": frr, "ios": ios, "batfish": batfish}
 
 
 def said(program: Program, text: str) -> tuple:
@@ -32,7 +33,7 @@ def said(program: Program, text: str) -> tuple:
 )
 @pytest.mark.parametrize("is_small", [False, True], ids=["large", "small"])
 def test_an_export_comes_back(
-    name: str, number: int, is_small: bool, target: object, tmp_path: Path, program: Program
+    name: str, number: int, is_small: bool, target: ModuleType, tmp_path: Path, program: Program
 ) -> None:
     text = (TOP / "examples" / "inputs" / f"{name}.cfg").read_text()
     text = program.compress(text, number) if is_small else text
@@ -44,7 +45,7 @@ def test_an_export_comes_back(
 
 
 @pytest.mark.parametrize("target", TARGETS.values(), ids=TARGETS)
-def test_a_loopback_comes_back_as_the_vlan_that_it_was(target: object, tmp_path: Path, program: Program) -> None:
+def test_a_loopback_comes_back_as_the_vlan_that_it_was(target: ModuleType, tmp_path: Path, program: Program) -> None:
     small = program.compress((TOP / "examples" / "inputs" / "campus.cfg").read_bytes(), 1)
     write_folder(tmp_path / "out", target.export(read_network(small)).files)
     asked = {**os.environ, "BONSAI_PROGRAM": program.path}

@@ -4,6 +4,7 @@ import shutil
 import subprocess
 from ipaddress import IPv4Network
 from pathlib import Path
+from types import ModuleType
 
 import pytest
 from hypothesis import given
@@ -23,7 +24,7 @@ from bonsainet.configs.text import Line, Place
 from bonsainet.tests.asking import place_of, tool
 
 EXAMPLES = [path for path in sorted((TOP / "examples" / "inputs").glob("*.cfg")) if "static-route" not in path.name]
-TARGETS = {"frr": frr, "ios": ios, "batfish": batfish}
+TARGETS: dict[str, ModuleType] = {"frr": frr, "ios": ios, "batfish": batfish}
 SMALL = """hostname core1
 ! member core1
 ! member core2
@@ -146,7 +147,7 @@ def test_lists_in_the_forms_of_frr() -> None:
 
 @pytest.mark.parametrize("target", TARGETS.values(), ids=TARGETS)
 @pytest.mark.parametrize("path", EXAMPLES, ids=lambda path: path.name)
-def test_each_line_of_a_text_is_written_or_told(path: Path, target: object) -> None:
+def test_each_line_of_a_text_is_written_or_told(path: Path, target: ModuleType) -> None:
     network = read_network(path.read_text(), path.name)
     exported = target.export(network)
     told = {change.place for change in exported.changes if change.before}
@@ -158,7 +159,7 @@ def test_each_line_of_a_text_is_written_or_told(path: Path, target: object) -> N
 
 
 @pytest.mark.parametrize("target", TARGETS.values(), ids=TARGETS)
-def test_each_rule_stands_on_the_page(target: object) -> None:
+def test_each_rule_stands_on_the_page(target: ModuleType) -> None:
     page = " ".join((TOP / "docs" / "use" / "EXPORT.md").read_text().split())
     for rule, reason in target.RULES.items():
         assert f"`{rule}`" in page, rule
@@ -294,7 +295,7 @@ def test_members_are_cut() -> None:
         "hostname a\n" + "".join(f"! member router{number}\n" for number in range(100)) + "end\n"
     ).devices[0]
     note = members_note(device)
-    assert note.startswith("stands for router0 router1 ") and note.endswith(" and 77 more") and len(note) < 240
+    assert note and note.startswith("stands for router0 router1 ") and note.endswith(" and 77 more") and len(note) < 240
 
 
 def test_a_folder_is_written_whole_or_not(tmp_path: Path) -> None:

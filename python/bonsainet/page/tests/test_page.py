@@ -13,40 +13,42 @@ pytest.importorskip("graphviz", reason="the package python3-graphviz is not ther
 pytest.importorskip("jinja2", reason="the package python3-jinja2 is not there: the page is not tried")
 
 from bonsainet.doubts.tests.test_ties import SETS, text_of
-from bonsainet.doubts.ties import Tied, ties_by_class
+from bonsainet.doubts.ties import TiesAsked, Tied, Unasked
 from bonsainet.drawing.layout import CLOSED
-from bonsainet.page.build import NOTHING, Rows, everything, inline, rows
+from bonsainet.page.build import Rows, everything, rows
+from bonsainet.page.pictures import inline
 from bonsainet.page.members import Numbers, folded, unfolded
 from bonsainet.page.tool import html as page_of, read_report
 from bonsainet.nets.campus import campus_text
 from bonsainet.nets.fat_tree import fat_tree_text
-from bonsainet.configs.compressed import Compressed, asked
+from bonsainet.configs.compressed import NOTHING, Compressed, asked
 from bonsainet.ask.program import Group, Program
 from bonsainet.ask.where import Identity
 from bonsainet.tests.asking import TWO_ALIKE, compressed, example, place_of, tool, wait_for
 
+PROGRAMS = {"bonsai": Identity("0" * 64, False, None)}
 pytestmark = pytest.mark.skipif(not shutil.which("dot"), reason="the package graphviz is not there: no page is made")
 
 
 def page(name: str, told_by_import: dict | None = None) -> str:
     text = example(name)
     found = [compressed(name, each.number) for each in text.classes]
-    return page_of(everything(text, rows(text, found), told_by_import, Program().identity))
+    return page_of(everything(text, rows(text, found), told_by_import, PROGRAMS))
 
 
 def test_classes_that_are_alike_but_for_their_prefixes_share_a_row() -> None:
     text = asked(Program(), TWO_ALIKE.encode(), "two-alike.cfg")
-    found = rows(text, text.compress_each(Program(), [1, 2]))
+    found = rows(text, list(text.compress_each([1, 2])))
     assert [(row.numbers, row.prefixes) for row in found] == [("1 2", ["10.1.0.0/24", "10.2.0.0/24"])]
 
 
 def test_rows_are_the_same_however_many_classes_come_at_a_time() -> None:
     """The ties are asked of the first class of a row alone."""
     text = asked(Program(), TWO_ALIKE.encode(), "two-alike.cfg")
-    found, made = text.compress_each(Program(), [1, 2]), Rows(text)
+    found, made = list(text.compress_each([1, 2])), Rows(text)
     asked_of: list[list[int]] = []
 
-    def ties_of(new: list[Compressed]) -> dict[int, list[Tied] | str]:
+    def ties_of(new: list[Compressed]) -> dict[int, list[Tied] | Unasked]:
         asked_of.append([one.number for one in new])
         return {}
 
@@ -88,8 +90,8 @@ def test_names_stand_once_however_many_the_classes_are() -> None:
     lengths = []
     for access in (3, 6):
         text = asked(Program(), campus_text(2, access).encode(), "F")
-        found = text.compress_each(Program(), [each.number for each in text.classes])
-        made = page_of(everything(text, rows(text, found), None, Program().identity))
+        found = list(text.compress_each([each.number for each in text.classes]))
+        made = page_of(everything(text, rows(text, found), None, PROGRAMS))
         origins = {router for each in text.classes for router, _ in each.origins}
         shown = re.sub(r"<svg.*?</svg>", "", made, flags=re.S)
         # (the page names a router once, and each that is the first of its group in compressed texts)
@@ -114,9 +116,9 @@ def test_nothing_is_loaded_from_elsewhere() -> None:
 
 def test_ties_are_told_first() -> None:
     text = asked(Program(), text_of({"m1 u": "route-map OUT out"}, {"m1": SETS}).encode(), "tie.cfg")
-    found = text.compress_each(Program(), [1])
+    found = list(text.compress_each([1]))
     made = page_of(
-        everything(text, rows(text, found, ties_by_class(Program(), text, found)), None, Program().identity, True)
+        everything(text, rows(text, found, TiesAsked(Program(), text, [1]).by_class(found)), None, PROGRAMS, True)
     )
     assert "In 1 of 1 classes routers hold a tied route" in made
     number = [*text.network.by_name].index("u") + 1
@@ -129,16 +131,16 @@ def test_ties_are_told_first() -> None:
 
 def test_a_network_without_ties_says_so() -> None:
     text = asked(Program(), text_of({}, {}).encode(), "none.cfg")
-    found = text.compress_each(Program(), [1])
+    found = list(text.compress_each([1]))
     assert "No router holds a tied route" in page_of(
-        everything(text, rows(text, found, ties_by_class(Program(), text, found)), None, Program().identity, True)
+        everything(text, rows(text, found, TiesAsked(Program(), text, [1]).by_class(found)), None, PROGRAMS, True)
     )
     assert "tied route" not in page("campus.cfg")
 
 
 def test_control_bytes_in_the_name_of_a_file() -> None:
     text = dataclasses.replace(example("two-routers.cfg"), name="a\x01b\x1b[31m<i>.cfg")
-    made = page_of(everything(text, rows(text, [compressed("two-routers.cfg", 1)]), None, Program().identity))
+    made = page_of(everything(text, rows(text, [compressed("two-routers.cfg", 1)]), None, PROGRAMS))
     assert "<title>Bonsai: a\\x01b\\x1b[31m&lt;i&gt;.cfg</title>" in made
     assert all(letter == "\n" or letter.isprintable() for letter in made)
 
@@ -297,6 +299,6 @@ def test_the_fat_tree_of_twenty_is_small_and_opens_soon(browser: object, tmp_pat
 def test_the_page_says_which_program_answered(is_proved: bool) -> None:
     text = example("two-routers.cfg")
     program = Identity("0123456789abcdef" * 4, is_proved, "kit-<1>")
-    made = page_of(everything(text, rows(text, [compressed("two-routers.cfg", 1)]), None, program))
+    made = page_of(everything(text, rows(text, [compressed("two-routers.cfg", 1)]), None, {"bonsai": program}))
     kind = "the proved program" if is_proved else "a program that is not proved"
-    assert f"{kind}, SHA-256 0123456789abcdef, made with kit-&lt;1&gt;;" in made
+    assert f"{kind}, SHA-256 0123456789abcdef, made with kit-&lt;1&gt;." in made
