@@ -1,9 +1,23 @@
-"""Bonsai's tools and its library. They ask the proved programs and decide nothing that these decide.
+"""Bonsai's library, on which its tools stand. It asks the proved programs and decides nothing that these decide.
+
+A Network is read from a text, a file or a folder of running configurations. Its classes are sets of destination prefixes that the
+network routes alike. Of each class the programs give the groups of routers that behave alike, the compressed network, the stable
+solutions, which are the states in which routing can come to rest, and the answers to questions about all of these.
 
     >>> import bonsainet
     >>> network = bonsainet.Network.from_file("examples/inputs/campus.cfg")
-    >>> bool(network.class_of("10.10.0.7").ask.route("*"))
+    >>> access = network.class_of("10.10.0.7")
+    >>> bool(access.ask.route("*"))
     True
+    >>> [group.members for group in access.groups()]
+    [('core1', 'core2'), ('dist1',), ('dist2',), ('access1',), ('access2',)]
+    >>> [loss.routers for loss in access.failing("routers").route(["dist1", "dist2"]).losses]
+    [('access1',)]
+    >>> [answer.number for answer in network.without("core1").route("dist1") if not answer]
+    [13]
+
+Errors are BonsaiError, and the classes below it say which. What takes a router takes `*` for all of them, one name, or several.
+The page docs/use/PYTHON.md has more examples, ASKING.md what the questions mean.
 """
 from __future__ import annotations
 
@@ -12,7 +26,10 @@ from typing import TYPE_CHECKING
 
 if TYPE_CHECKING:
     from bonsainet.library import (
+        AllQuestions,
         Answer,
+        Aspect,
+        BgpLabel,
         BonsaiError,
         Change,
         ClassNotFound,
@@ -23,10 +40,13 @@ if TYPE_CHECKING:
         Kind,
         Loss,
         Network,
+        OspfLabel,
         PrefixChange,
         ProgramFailed,
         Questions,
+        Reply,
         Route,
+        Size,
         TextRefused,
         Tie,
         WordsRefused,
@@ -34,7 +54,10 @@ if TYPE_CHECKING:
     )
 
 __all__ = [
+    "AllQuestions",
     "Answer",
+    "Aspect",
+    "BgpLabel",
     "BonsaiError",
     "Change",
     "ClassNotFound",
@@ -45,10 +68,13 @@ __all__ = [
     "Kind",
     "Loss",
     "Network",
+    "OspfLabel",
     "PrefixChange",
     "ProgramFailed",
     "Questions",
+    "Reply",
     "Route",
+    "Size",
     "TextRefused",
     "Tie",
     "WordsRefused",

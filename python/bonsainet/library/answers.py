@@ -3,21 +3,22 @@ from __future__ import annotations
 
 import dataclasses
 
-from bonsainet.ask.labels import Label
-from bonsainet.asking.reports import Loss, Tie
+from bonsainet.ask.labels import Label, read_solution
+from bonsainet.asking.reports import ClassAnswer, Loss, Tie
 
-__all__ = ["Answer", "Loss", "Tie"]
+__all__ = ["Answer", "Loss", "Reply", "Tie"]
 
 
 @dataclasses.dataclass(frozen=True)
 class Answer:
-    """The answer to a question for one class.
+    """The answer to a question for one class, of which `number` is the number.
 
     `verdict` is `yes` where the question is true in every stable solution, `no` where it is false in one, and `none`
     where there is no stable solution. `tied` names a router whose best offers tie, where the answer may hang on how real
     routers break ties. `counterexample` has the labels of a stable solution in which the question is false, if the verdict
-    is `no`. `losses` are the links or routers without which the answer is not `yes`, of `tried` that were tried, where the
-    question was asked with something failing.
+    is `no` and one class was asked. `losses` are the links or routers without which the answer is not `yes`, of `tried`
+    that were tried, where the question was asked with something failing; `tied_losses` says how many of these answers are
+    tied.
     """
 
     words: tuple[str, ...]
@@ -26,7 +27,38 @@ class Answer:
     counterexample: dict[str, Label] | None = None
     losses: tuple[Loss, ...] = ()
     tried: int | None = None
+    tied_losses: int = 0
+    number: int = 0
+
+    @classmethod
+    def of(cls, question: tuple[str, ...], said: ClassAnswer) -> Answer:
+        """The answer that the program gives to a question."""
+        return cls(
+            question,
+            said.verdict,
+            said.tie,
+            read_solution("\n".join(said.labels)) if said.labels else None,
+            said.failing.losses if said.failing else (),
+            said.failing.tried if said.failing else None,
+            said.failing.tied if said.failing else 0,
+            said.number,
+        )
 
     def __bool__(self) -> bool:
         """Whether the answer is `yes`, also without each one link or router that was tried."""
         return self.verdict == "yes" and not self.losses
+
+
+@dataclasses.dataclass(frozen=True)
+class Reply:
+    """What is said to a line of a file of questions: the number of the line, its words, and an answer for each class, or
+    for `count` the number of stable solutions of each."""
+
+    line: int
+    words: tuple[str, ...]
+    answers: tuple[Answer, ...] = ()
+    counts: tuple[int, ...] = ()
+
+    def __bool__(self) -> bool:
+        """Whether each answer is `yes`."""
+        return all(self.answers)

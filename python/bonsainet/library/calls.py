@@ -1,26 +1,33 @@
-"""The programs, each found once, and their calls over a text."""
+"""The programs, and their calls over a text."""
 from __future__ import annotations
 
-import functools
-from collections.abc import Collection
+import contextlib
+from collections.abc import Collection, Iterator
 
-from bonsainet.ask.program import Answer, Program, Status
+from bonsainet.ask.program import ASK, BONSAI, Answer, NotAnswered, Program, Status, named
 from bonsainet.ask.where import NoProgram
 from bonsainet.library.errors import ProgramFailed, error_of
 
-BONSAI, ASK = "bonsai", "bonsai-ask"
+__all__ = ["ASK", "BONSAI", "call", "errors_of", "program"]
+
 DONE: Collection[int] = (Status.DONE,)
 
 
-@functools.cache
-def program(name: str) -> Program:
-    """The program of a name. ProgramFailed where there is none."""
+@contextlib.contextmanager
+def errors_of(title: str, text: str) -> Iterator[None]:
+    """Makes errors of the library of what goes wrong where programs are asked of a text of this name."""
     try:
-        found = Program(name=name)
-        assert found.path
-        return found
+        yield
+    except NotAnswered as fault:
+        raise error_of(fault.answer, title, text) from fault
     except (NoProgram, FileNotFoundError) as fault:
         raise ProgramFailed(Status.NO_PROGRAM, str(fault)) from fault
+
+
+def program(name: str) -> Program:
+    """The program of a name. ProgramFailed where there is none."""
+    with errors_of("", ""):
+        return named(name)
 
 
 def call(

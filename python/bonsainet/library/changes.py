@@ -3,13 +3,15 @@ from __future__ import annotations
 
 import dataclasses
 import enum
-from collections.abc import Mapping
+from collections.abc import Collection
 
 from bonsainet.asking.reports import Tie
+from bonsainet.library.errors import WordsRefused
 from bonsainet.library.networks import Network
-from bonsainet.library.states import Route, State, states
+from bonsainet.library.routes import Aspect, Near, Routes, near_interfaces, routes_of
+from bonsainet.library.states import Held, State, states_of
 
-NO_STATE = State(1, {}, None)
+NO_ROUTE: Routes = frozenset([None])
 
 
 class Kind(enum.Enum):
@@ -22,31 +24,56 @@ class Kind(enum.Enum):
 
 @dataclasses.dataclass(frozen=True)
 class Change:
-    """Routers whose routes change alike: what each may hold before and after, none standing for no route."""
+    """Routers whose routes change alike: what each may hold before and after, none standing for no route, and in what that
+    differs. Where there is one route before and one after, both have nothing but what differs."""
 
     kind: Kind
     routers: tuple[str, ...]
-    before: frozenset[Route | None]
-    after: frozenset[Route | None]
+    before: Routes
+    after: Routes
+    aspects: tuple[Aspect, ...] = ()
+
+
+@dataclasses.dataclass(frozen=True)
+class Side:
+    """What is read of a side: how many stable solutions, whether these are all, and a tie, where what comes to rest may
+    hang on how real routers break ties. Of more than 64 solutions the first 64 are read."""
+
+    solutions: int
+    is_whole: bool
+    tie: Tie | None
+
+    @property
+    def is_tied(self) -> bool:
+        """Whether there is a tie. Which router the program names for it is free."""
+        return self.tie is not None
 
 
 @dataclasses.dataclass(frozen=True)
 class PrefixChange:
-    """Prefixes that change alike: the changes of routers, how many stable solutions there are before and after, and a tie
-    on either side, where what comes to rest may hang on how real routers break ties. `is_whole` is false where a side has
-    more than 64 solutions, whose routes are not compared."""
+    """Prefixes that change alike: the changes of routers, and both sides."""
 
     prefixes: tuple[str, ...]
     changes: tuple[Change, ...]
-    solutions: tuple[int, int]
-    ties: tuple[Tie | None, Tie | None]
-    is_whole: bool
+    before: Side
+    after: Side
+
+    @property
+    def is_whole(self) -> bool:
+        """Whether all solutions of both sides are compared."""
+        return self.before.is_whole and self.after.is_whole
+
+    @property
+    def is_equal_in_part(self) -> bool:
+        """Whether both sides have more solutions than are read, and those that are read do not differ."""
+        return not (self.before.is_whole or self.after.is_whole or self.changes)
 
 
 @dataclasses.dataclass(frozen=True)
 class Difference:
     """What changes in routing: the prefixes whose routes change, the routers and the prefixes that come and go, and how many
-    prefixes stay as they are."""
+    prefixes stay as they are. `partly` are those among the latter that have more than 64 stable solutions: the canonical
+    compressed networks are the same, so all labels are, and next hops are compared in the first 64."""
 
     changed: tuple[PrefixChange, ...]
     routers_gone: tuple[str, ...]
@@ -54,36 +81,55 @@ class Difference:
     prefixes_gone: tuple[str, ...]
     prefixes_new: tuple[str, ...]
     same: int
+    partly: tuple[str, ...] = ()
 
     def __bool__(self) -> bool:
         """Whether anything changes."""
         return bool(self.changed)
 
 
+@dataclasses.dataclass(frozen=True)
+class _Sides:
+    """The interfaces towards neighbours on both sides, and the routers for which they are not the same."""
+
+    before: Near
+    after: Near
+    moved: frozenset[str]
+
+    @classmethod
+    def of(cls, old: Network, new: Network) -> _Sides:
+        before, after = near_interfaces(old.parsed), near_interfaces(new.parsed)
+        pairs = {pair for pair in {**before, **after} if before.get(pair) != after.get(pair)}
+        return cls(before, after, frozenset(router for router, _ in pairs))
+
+
 def diff(old: Network, new: Network) -> Difference:
     """What changes in routing from one network to another, in every stable solution. The labels are those of the proved
     programs."""
-    before, after = states(old), states(new)
     pairs = _pairs(old, new)
-    compared = {
-        pair: _compared(before.get(pair[0], NO_STATE), after.get(pair[1], NO_STATE)) for pair in set(pairs.values())
-    }
+    compared = {} if old.text == new.text else _compared_each(old, new, list(dict.fromkeys(pairs.values())))
     alike: dict[PrefixChange, list[str]] = {}
+    partly = []
     for prefix, pair in pairs.items():
-        found = compared[pair]
-        if found:
+        found = compared.get(pair)
+        if found and found.is_equal_in_part and _has_one_canon(old, new, pair):
+            partly.append(prefix)
+        elif found:
             alike.setdefault(found, []).append(prefix)
-    changed = tuple(dataclasses.replace(found, prefixes=tuple(prefixes)) for found, prefixes in alike.items())
-    routers = (old.routers, new.routers)
-    prefixes = [{prefix for one in network.classes for prefix in one.prefixes} for network in (old, new)]
     return Difference(
-        changed,
-        tuple(name for name in routers[0] if name not in routers[1]),
-        tuple(name for name in routers[1] if name not in routers[0]),
-        tuple(prefix for prefix in pairs if prefix not in prefixes[1]),
-        tuple(prefix for prefix in pairs if prefix not in prefixes[0]),
-        len(pairs) - sum(len(found.prefixes) for found in changed),
+        tuple(dataclasses.replace(found, prefixes=tuple(prefixes)) for found, prefixes in alike.items()),
+        _without(old.routers, new.routers),
+        _without(new.routers, old.routers),
+        tuple(prefix for prefix, (_, number) in pairs.items() if not number),
+        tuple(prefix for prefix, (number, _) in pairs.items() if not number),
+        len(pairs) - sum(map(len, alike.values())),
+        tuple(partly),
     )
+
+
+def _without(names: Collection[str], others: Collection[str]) -> tuple[str, ...]:
+    known = set(others)
+    return tuple(name for name in names if name not in known)
 
 
 def _pairs(old: Network, new: Network) -> dict[str, tuple[int, int]]:
@@ -92,26 +138,69 @@ def _pairs(old: Network, new: Network) -> dict[str, tuple[int, int]]:
     return {prefix: (sides[0].get(prefix, 0), sides[1].get(prefix, 0)) for prefix in {**sides[0], **sides[1]}}
 
 
-def _compared(before: State, after: State) -> PrefixChange | None:
+def _compared_each(
+    old: Network, new: Network, pairs: list[tuple[int, int]]
+) -> dict[tuple[int, int], PrefixChange | None]:
+    """How the classes of each pair differ, if they do."""
+    before, after = states_of([old, new])
+    sides = _Sides.of(old, new)
+    # (a prefix that nobody originates has one solution, in which nobody has a route)
+    absent = [State(1, True, dict.fromkeys(network.routers, frozenset([NOTHING]))) for network in (old, new)]
+    return {pair: _compared(before.get(pair[0], absent[0]), after.get(pair[1], absent[1]), sides) for pair in pairs}
+
+
+def _has_one_canon(old: Network, new: Network, pair: tuple[int, int]) -> bool:
+    """Whether the classes have the same compressed network with canonical maps, so that they have the same labels."""
+    try:
+        before, after = (network.class_of(number).canon().text for network, number in zip((old, new), pair))
+    except WordsRefused:
+        return False
+    return before == after
+
+
+NOTHING: Held = (b"none", b"none")
+UNKNOWN: frozenset[Held] = frozenset([NOTHING])
+
+
+def _compared(before: State, after: State, sides: _Sides) -> PrefixChange | None:
     """How two states differ, if they do."""
-    names = {**before.routes, **after.routes}
-    alike: dict[tuple[Kind, frozenset[Route | None], frozenset[Route | None]], list[str]] = {}
-    for name in names:
-        old, new = _held(before.routes, name), _held(after.routes, name)
-        if old != new:
-            alike.setdefault((_kind(old, new), old, new), []).append(name)
+    alike: dict[Change, list[str]] = {}
+    # (where there is no stable solution, there is nothing to compare)
+    for name in {**before.held, **after.held} if before.solutions and after.solutions else ():
+        old, new = before.held.get(name, UNKNOWN), after.held.get(name, UNKNOWN)
+        if old == new and name not in sides.moved:
+            continue
+        found = _change(routes_of(name, old, sides.before), routes_of(name, new, sides.after))
+        if found:
+            alike.setdefault(found, []).append(name)
+    shown = [Side(state.solutions, state.is_whole, state.tie) for state in (before, after)]
+    is_same_count = shown[0].solutions == shown[1].solutions and shown[0].is_whole == shown[1].is_whole
     is_whole = before.is_whole and after.is_whole
-    if not alike and is_whole and before.solutions == after.solutions:
+    if not alike and is_same_count and is_whole and shown[0].is_tied == shown[1].is_tied:
         return None
-    changes = tuple(Change(kind, tuple(routers), old, new) for (kind, old, new), routers in alike.items())
-    return PrefixChange((), changes, (before.solutions, after.solutions), (before.tie, after.tie), is_whole)
+    changes = tuple(dataclasses.replace(change, routers=tuple(names)) for change, names in alike.items())
+    return PrefixChange((), changes, *shown)
 
 
-def _held(routes: Mapping[str, frozenset[Route | None]], name: str) -> frozenset[Route | None]:
-    return routes.get(name, frozenset([None]))
+def _change(old: Routes, new: Routes) -> Change | None:
+    """The change from routes to routes, if there is one."""
+    if old == new:
+        return None
+    if NO_ROUTE in (old, new):
+        return Change(Kind.GAINED if old == NO_ROUTE else Kind.LOST, (), old, new)
+    aspects = tuple(aspect for aspect in Aspect if _values(old, aspect) != _values(new, aspect))
+    if len(old) == len(new) == 1:
+        old, new = (frozenset(route and route.only(aspects) for route in routes) for routes in (old, new))
+    return Change(Kind.CHANGED, (), old, new, aspects)
 
 
-def _kind(old: frozenset[Route | None], new: frozenset[Route | None]) -> Kind:
-    if old == {None}:
-        return Kind.GAINED
-    return Kind.LOST if new == {None} else Kind.CHANGED
+def _values(routes: Routes, aspect: Aspect) -> set[object]:
+    return {route.aspects.get(aspect) for route in routes if route}
+
+
+def in_all(routes: Routes) -> dict[Aspect, object] | None:
+    """What holds in all solutions: what all routes have in common. None where in some or all of them there is no route."""
+    if None in routes or not routes:
+        return None
+    each = [route.aspects for route in routes if route]
+    return {aspect: value for aspect, value in each[0].items() if all(one.get(aspect) == value for one in each)}

@@ -7,15 +7,14 @@ from collections.abc import Mapping
 from typing import TYPE_CHECKING, Literal
 
 from bonsainet.ask.labels import Label, read_solution, solution_text
-from bonsainet.ask.program import Class, Group, Status, groups_of
-from bonsainet.asking.reports import Solution, forwards_of, reports_of
-from bonsainet.library.calls import ASK, BONSAI, call
+from bonsainet.ask.program import BONSAI, Class, Group, Size, Status, groups_of, report_of
+from bonsainet.library.calls import call
 from bonsainet.library.questions import Questions
 
 if TYPE_CHECKING:
     from bonsainet.library.networks import Network
 
-__all__ = ["DestClass", "Group"]
+__all__ = ["DestClass", "Group", "Size"]
 
 Labels = dict[str, Label]
 
@@ -56,6 +55,10 @@ class DestClass:
         """The groups of routers that behave alike for the class: the coarsest that are admissible."""
         return self._groups
 
+    def size(self) -> Size:
+        """How many routers and links there are before and after compression."""
+        return report_of(self._done("report"))[0]
+
     def compress(self) -> Network:
         """The compressed network of the class: a router for each group."""
         from bonsainet.library.networks import Network
@@ -69,13 +72,13 @@ class DestClass:
         return Network(self._done("canon"), f"class {self.number} of {self.network.name}, canonical")
 
     def solutions(self) -> list[Labels]:
-        """Each stable solution: for each router its label, or none."""
-        return [read_solution("\n".join(found.lines)) for found in self._each("solutions")]
+        """Each stable solution: for each router its label, a BgpLabel or an OspfLabel, or none."""
+        return self.ask.solutions()
 
     def forwards(self) -> list[dict[str, tuple[str, ...] | None]]:
-        """For each stable solution, to whom each router forwards: nobody where it holds its own route, and none where it
-        has no route."""
-        return [forwards_of(found.lines) for found in self._each("forwards")]
+        """For each stable solution the next hops: to whom each router forwards, nobody where it holds its own route, and
+        none where it has no route."""
+        return self.ask.forwards()
 
     def check(self, labels: Mapping[str, Label]) -> bool:
         """Whether labels are a stable solution."""
@@ -98,8 +101,3 @@ class DestClass:
 
     def _done(self, command: str) -> str:
         return call(BONSAI, [command, "F", str(self.number)], self.network.text, self.network.name).text
-
-    def _each(self, task: str) -> list[Solution]:
-        said = call(ASK, ["F", str(self.number), task], self.network.text, self.network.name).text
-        (report,) = reports_of(said)
-        return [part for part in report.parts if isinstance(part, Solution)]

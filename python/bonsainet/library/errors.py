@@ -1,9 +1,7 @@
 """What can go wrong, as exceptions that carry what a caller needs. All of them are BonsaiError."""
 from __future__ import annotations
 
-import re
-
-from bonsainet.ask.program import Answer, Status
+from bonsainet.ask.program import Answer, Status, refusal_of
 from bonsainet.importing.report import Report
 
 
@@ -55,12 +53,11 @@ class ProgramFailed(BonsaiError):
 
 def error_of(answer: Answer, name: str, text: str) -> BonsaiError:
     """The error of a call that was not done, over a text of this name."""
-    reason = answer.reason.removeprefix("refused: ")
-    at_line = re.fullmatch(r"line (\d+): (\w+)", reason)
-    if answer.status == Status.REFUSED and at_line:
-        lines = text.splitlines()
-        number = int(at_line[1])
-        return TextRefused(name, at_line[2], number, lines[number - 1] if number <= len(lines) else "")
+    refusal, reason = refusal_of(answer), answer.reason.removeprefix("refused: ")
+    if refusal:
+        lines = text.split("\n")
+        line = lines[refusal.line - 1].removesuffix("\r") if refusal.line <= len(lines) else ""
+        return TextRefused(name, refusal.kind, refusal.line, line)
     if answer.status == Status.REFUSED and reason.startswith("NoClass "):
         return ClassNotFound(reason.removeprefix("NoClass "))
     if answer.status in (Status.REFUSED, Status.USAGE):

@@ -1,123 +1,143 @@
-"""All that a network may come to rest in: for each class its stable solutions, as routes with next hops."""
+"""All that a network may come to rest in: for each class its stable solutions, router by router."""
 from __future__ import annotations
 
+import contextlib
 import dataclasses
-import os
-from collections.abc import Iterable, Mapping
+import itertools
+from collections.abc import Iterable, Iterator, Mapping, Sequence
 
-from bonsainet.ask.labels import BgpLabel, Label, OspfLabel, read_solution
-from bonsainet.asking.calls import IS_DONE, Asked, Call
-from bonsainet.asking.reports import ClassAnswer, Count, Part, Solution, Tie, forwards_of, reports_of
-from bonsainet.asking.shares import shared
-from bonsainet.asking.ways import interfaces_of
-from bonsainet.configs.network import read_network
-from bonsainet.library.calls import ASK, program
+from bonsainet.ask.program import IS_DONE, Answer, NotAnswered
+from bonsainet.ask.shares import processors, ranges, side_by_side
+from bonsainet.asking.reports import ClassAnswer, Tie, reports_of
+from bonsainet.asking.shares import ALWAYS_TRUE, RANGES_EACH
+from bonsainet.library.calls import ASK, call, program
 from bonsainet.library.errors import error_of
 from bonsainet.library.networks import Network
 
 MOST_SOLUTIONS = 64
-# (true in all labels, so the program says nothing but whether there are some, and whether they are tied)
-ALWAYS_TRUE = ("hops", "999999999", "*")
 
-NextHop = tuple[str, tuple[str, ...]]
-
-
-@dataclasses.dataclass(frozen=True)
-class Route:
-    """What a router holds in a stable solution: the preference, the length of the path and the communities in BGP, the cost
-    in OSPF, and its next hops, each with the interfaces of its links. The numbers on the path are no part of it: of paths
-    of equal length any may be held."""
-
-    nexts: tuple[NextHop, ...]
-    preference: int | None = None
-    length: int | None = None
-    communities: tuple[int, ...] = ()
-    cost: int | None = None
+# What a router holds in a solution, as the program writes it: its label, and to whom it forwards.
+Held = tuple[bytes, bytes]
 
 
 @dataclasses.dataclass(frozen=True)
 class State:
-    """What a class may come to rest in: how many stable solutions it has, the routes of each router in them, none where it
-    has no route in one, and a tie if the solutions are tied. Of more than 64 solutions it has none."""
+    """What a class may come to rest in: how many stable solutions were read, whether these are all, what each router holds
+    in them, and a tie if the solutions are tied. Of more than 64 solutions the first 64 are read, and no tie is asked for.
+    """
 
     solutions: int
-    routes: Mapping[str, frozenset[Route | None]]
-    tie: Tie | None
-
-    @property
-    def is_whole(self) -> bool:
-        """Whether the routes are those of all solutions."""
-        return self.solutions <= MOST_SOLUTIONS
+    is_whole: bool
+    held: Mapping[str, frozenset[Held]]
+    tie: Tie | None = None
 
 
-def states(network: Network) -> dict[int, State]:
-    """The states of all classes, by their numbers. The programs are asked for all classes at once."""
-    if not network.classes:
+NO_SOLUTION = State(0, True, {})
+
+
+@dataclasses.dataclass(frozen=True)
+class _Share:
+    """Classes of a network that are asked for together."""
+
+    network: Network
+    first: int
+    last: int
+
+
+def states_of(networks: Sequence[Network]) -> list[dict[int, State]]:
+    """The states of all classes of each network, by their numbers. Processes share the classes; none is there for one class
+    alone, unless the one before it has more than 64 solutions."""
+    # (the program is found once, and not by several threads)
+    assert program(ASK).path
+    parts = max(1, processors() // 2) * RANGES_EACH
+    shares = [
+        _Share(network, *span)
+        for network in networks
+        for span in ranges([found.number for found in network.classes], parts)
+    ]
+    states: dict[int, dict[int, State]] = {id(network): {} for network in networks}
+    for share, part in zip(shares, side_by_side(_states_of_share, shares)):
+        states[id(share.network)] |= part
+    return [states[id(network)] for network in networks]
+
+
+def _states_of_share(share: _Share) -> dict[int, State]:
+    read = dict(_read(share))
+    whole = [number for number in range(share.first, share.last + 1) if read.get(number, NO_SOLUTION).is_whole]
+    ties = _ties(share.network, whole)
+    return {
+        number: dataclasses.replace(read.get(number, NO_SOLUTION), tie=ties.get(number))
+        for number in range(share.first, share.last + 1)
+    }
+
+
+def _read(share: _Share) -> Iterator[tuple[int, State]]:
+    """The states of the classes that have solutions. The program goes on behind a class with too many of them."""
+    first = share.first
+    while first <= share.last:
+        with contextlib.ExitStack() as room:
+            found = _solutions(room, share.network, first, share.last)
+            first = share.last + 1
+            for number, of_class in itertools.groupby(found, key=lambda solution: solution[0]):
+                state = _state(share.network.routers, [held for _, held in itertools.islice(of_class, MOST_SOLUTIONS)])
+                state = dataclasses.replace(state, is_whole=next(of_class, None) is None)
+                yield number, state
+                if not state.is_whole:
+                    first = number + 1
+                    break
+
+
+def _state(routers: Sequence[str], solutions: Sequence[list[Held]]) -> State:
+    each = {name: frozenset(held) for name, held in zip(routers, zip(*solutions))}
+    return State(len(solutions), True, each)
+
+
+def _solutions(room: contextlib.ExitStack, network: Network, first: int, last: int) -> Iterator[tuple[int, list[Held]]]:
+    """Each solution of these classes: the number of the class, and what each router holds. The program lists them in one
+    order for `solutions` and `forwards`."""
+    outputs = [room.enter_context(_output(network, f"{first}-{last}", task)) for task in ("solutions", "forwards")]
+    count = len(network.routers)
+    for heads in zip(*outputs):
+        labels, forwards = (list(itertools.islice(output, count)) for output in outputs)
+        assert heads[0] == heads[1], "bonsai-ask lists its solutions in one order"
+        yield int(heads[0].split()[1]), [(_behind(label), _behind(hops)) for label, hops in zip(labels, forwards)]
+
+
+def _behind(line: bytes) -> bytes:
+    """A line without its first word, the router's name."""
+    return line.partition(b" ")[2].rstrip(b"\n")
+
+
+@contextlib.contextmanager
+def _output(network: Network, classes: str, task: str) -> Iterator[Iterator[bytes]]:
+    """The lines that the program writes."""
+    try:
+        with program(ASK).output("F", classes, task, texts={"F": network.raw}) as lines:
+            yield lines
+    except NotAnswered as fault:
+        raise error_of(fault.answer, network.name, network.text) from None
+
+
+def _ties(network: Network, numbers: list[int]) -> dict[int, Tie | None]:
+    """The ties of these classes. Costs do not tie: routes of one cost differ in nothing."""
+    if network.parsed.protocol != "bgp":
         return {}
-    counts = {part.number: part.solutions for part in _parts(network, ("count",)) if isinstance(part, Count)}
-    ties = {part.number: part.tie for part in _parts(network, ALWAYS_TRUE) if isinstance(part, ClassAnswer)}
-    few = [number for number, count in counts.items() if count <= MOST_SOLUTIONS]
-    labels = _solutions(network, few, "solutions")
-    forwards = _solutions(network, few, "forwards")
-    over = _near_interfaces(network)
     found = {}
-    for number, count in counts.items():
-        routes: dict[str, set[Route | None]] = {}
-        for held, hops in zip(labels.get(number, []), forwards.get(number, [])):
-            nexts = forwards_of(hops)
-            for router, label in read_solution("\n".join(held)).items():
-                routes.setdefault(router, set()).add(_route(label, router, nexts[router], over))
-        found[number] = State(count, {router: frozenset(each) for router, each in routes.items()}, ties[number])
+    for first, last in runs(numbers):
+        said: Answer = call(ASK, ["F", f"{first}-{last}", *ALWAYS_TRUE], network.text, network.name, done=IS_DONE)
+        (report,) = reports_of(said.text)
+        for part in report.parts:
+            assert isinstance(part, ClassAnswer)
+            found[part.number] = part.tie
     return found
 
 
-def _near_interfaces(network: Network) -> dict[tuple[str, str], tuple[str, ...]]:
-    """For each pair of routers the interfaces of the first towards the second."""
-    pairs = interfaces_of(read_network(network.text, network.name))
-    return {pair: tuple(sorted(one.partition(" > ")[0] for one in each)) for pair, each in pairs.items()}
-
-
-def _route(
-    label: Label, router: str, nexts: Iterable[str] | None, over: Mapping[tuple[str, str], tuple[str, ...]]
-) -> Route | None:
-    hops = tuple(sorted((further, over.get((router, further), ())) for further in nexts or ()))
-    match label:
-        case OspfLabel(cost):
-            return Route(hops, cost=cost)
-        case BgpLabel(preference, path, communities):
-            return Route(hops, preference, len(path), communities)
-        case _:
-            return None
-
-
-def _solutions(network: Network, numbers: list[int], task: str) -> dict[int, list[tuple[str, ...]]]:
-    """The lines of each solution of these classes."""
-    found: dict[int, list[tuple[str, ...]]] = {}
-    for first, last in _runs(numbers):
-        for part in _parts(network, (task,), "*" if last - first + 1 == len(network.classes) else f"{first}-{last}"):
-            assert isinstance(part, Solution) and part.number is not None
-            found.setdefault(part.number, []).append(part.lines)
-    return found
-
-
-def _runs(numbers: list[int]) -> list[tuple[int, int]]:
+def runs(numbers: Iterable[int]) -> list[tuple[int, int]]:
     """Ascending numbers as ranges."""
-    runs: list[tuple[int, int]] = []
+    found: list[tuple[int, int]] = []
     for number in numbers:
-        if runs and runs[-1][1] == number - 1:
-            runs[-1] = runs[-1][0], number
+        if found and found[-1][1] == number - 1:
+            found[-1] = found[-1][0], number
         else:
-            runs.append((number, number))
-    return runs
-
-
-def _parts(network: Network, task: tuple[str, ...], classes: str = "*") -> tuple[Part, ...]:
-    """What the program says of all classes, which processes share."""
-    asked = Asked(program(ASK), "-", network.text.encode("ascii", "surrogateescape"))
-    written: list[bytes] = []
-    jobs = len(os.sched_getaffinity(0))
-    answer = shared(asked, Call("-", classes, (), task), jobs, written.append, len(network.classes))
-    if answer.status not in IS_DONE:
-        raise error_of(answer, network.name, network.text)
-    (report,) = reports_of(b"".join(written).decode("ascii"))
-    return report.parts
+            found.append((number, number))
+    return found

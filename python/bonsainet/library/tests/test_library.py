@@ -91,6 +91,13 @@ def test_solutions(disagree: bonsainet.DestClass) -> None:
         assert disagree.check(lifted)
 
 
+def test_routers_named_as_the_library_names_its_texts(disagree: bonsainet.DestClass) -> None:
+    text = disagree.network.text.replace("hostname x\n", "hostname F\n").replace("hostname y\n", "hostname S\n")
+    renamed = bonsainet.Network.from_text(text).class_of(1)
+    assert renamed.ask.route("F") and renamed.ask.route(["S"]) and not renamed.ask.hops(1, "F")
+    assert renamed.without("F").hops(1, "S")
+
+
 @pytest.mark.parametrize(
     "asked", [lambda c: c.ask.route("nobody"), lambda c: c.without("x:nobody").route(), lambda c: c.ask.carries("no")]
 )
@@ -131,7 +138,7 @@ def test_a_frame(campus: bonsainet.Network) -> None:
     assert list(frame.index) == [found.number for found in campus.classes]
     assert frame.loc[10, "groups"] == len(campus.class_of(10).groups())
     with pytest.raises(ValueError, match="no frame 'routes'"):
-        campus.frame("routes")
+        campus.frame("routes")  # type: ignore[arg-type]
 
 
 def test_a_name_that_is_not_there() -> None:

@@ -1,0 +1,86 @@
+"""A route that a router holds in a stable solution, and in what two of them differ."""
+from __future__ import annotations
+
+import dataclasses
+import enum
+from collections.abc import Collection, Iterable, Mapping
+
+from bonsainet.ask.labels import BgpLabel, OspfLabel, read_solution
+from bonsainet.asking.reports import forwards_of
+from bonsainet.asking.ways import interfaces_of
+from bonsainet.configs.network import Network
+
+NextHop = tuple[str, tuple[str, ...]]
+Near = Mapping[tuple[str, str], tuple[str, ...]]
+
+
+class Aspect(enum.Enum):
+    """In what routes may differ."""
+
+    COST = "cost"
+    PREFERENCE = "preference"
+    LENGTH = "length"
+    COMMUNITIES = "communities"
+    NEXT_HOPS = "to"
+
+
+@dataclasses.dataclass(frozen=True)
+class Route:
+    """What a router holds in a stable solution: the preference, the length of the path and the communities in BGP, the cost
+    in OSPF, and its next hops, each with the interfaces of its links. The numbers on the path are no part of it: of paths
+    of equal length any may be held. In a change, what is the same before and after is none."""
+
+    nexts: tuple[NextHop, ...] | None
+    preference: int | None = None
+    length: int | None = None
+    communities: tuple[int, ...] | None = None
+    cost: int | None = None
+
+    @property
+    def aspects(self) -> dict[Aspect, object]:
+        """What it has."""
+        found = {
+            Aspect.COST: self.cost,
+            Aspect.PREFERENCE: self.preference,
+            Aspect.LENGTH: self.length,
+            Aspect.COMMUNITIES: self.communities,
+            Aspect.NEXT_HOPS: self.nexts,
+        }
+        return {aspect: value for aspect, value in found.items() if value is not None}
+
+    def only(self, aspects: Collection[Aspect]) -> Route:
+        """The same with nothing but these aspects."""
+        return Route(
+            self.nexts if Aspect.NEXT_HOPS in aspects else None,
+            self.preference if Aspect.PREFERENCE in aspects else None,
+            self.length if Aspect.LENGTH in aspects else None,
+            self.communities if Aspect.COMMUNITIES in aspects else None,
+            self.cost if Aspect.COST in aspects else None,
+        )
+
+
+Routes = frozenset[Route | None]
+
+
+def near_interfaces(network: Network) -> dict[tuple[str, str], tuple[str, ...]]:
+    """For each pair of routers the interfaces of the first towards the second."""
+    pairs = interfaces_of(network)
+    return {pair: tuple(sorted(one.partition(" > ")[0] for one in each)) for pair, each in pairs.items()}
+
+
+def routes_of(router: str, held: Iterable[tuple[bytes, bytes]], near: Near) -> Routes:
+    """The routes of a router, none where it has no route, by what the program writes: labels, and to whom it forwards."""
+    return frozenset(_route(router, label.decode("ascii"), hops.decode("ascii"), near) for label, hops in held)
+
+
+def _route(router: str, label: str, hops: str, near: Near) -> Route | None:
+    found = read_solution(f"{router} {label}")[router]
+    (nexts,) = forwards_of([f"{router} {hops}"]).values()
+    over = tuple(sorted((further, near.get((router, further), ())) for further in nexts or ()))
+    match found:
+        case OspfLabel(cost):
+            return Route(over, cost=cost)
+        case BgpLabel(preference, path, communities):
+            return Route(over, preference, len(path), communities)
+        case _:
+            return None
