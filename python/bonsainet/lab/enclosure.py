@@ -86,20 +86,22 @@ def enclosed() -> Iterator[subprocess.Popen[str]]:
         process.wait()
 
 
-def run_plan(plan: Plan, seconds: float, quiet: float) -> dict:
-    """Runs a plan in an enclosure: the record that the lab wrote. Refused where it could not, with the reason."""
+def run_plan(plan: Plan, seconds: float, quiet: float, before: float | None = None) -> dict:
+    """Runs a plan in an enclosure: the record that the lab wrote. `before` is how long routers may take to rest before and
+    between losses, `seconds` where it is not given. Refused where it could not, with the reason."""
     refuse_unless_small(len(plan.routers))
+    request = {"plan": plan.text(), "seconds": seconds, "quiet": quiet, "before": seconds if before is None else before}
     with enclosed() as process:
         try:
-            process.stdin.write(json.dumps({"plan": plan.text(), "seconds": seconds, "quiet": quiet}) + "\n")
+            process.stdin.write(json.dumps(request) + "\n")
             process.stdin.flush()
         except BrokenPipeError:
             pass
-        told = process.stdout.read()
-        if not told.strip():
+        answer = process.stdout.read()
+        if not answer.strip():
             words = process.stderr.read().strip().splitlines()
             raise Refused(f"the lab ended without an answer: {words[-1] if words else 'no word'}")
-    record = json.loads(told)
+    record = json.loads(answer)
     if "fault" in record:
         raise Refused(f"the lab: {record['fault']}")
     return record

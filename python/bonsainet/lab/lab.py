@@ -9,6 +9,7 @@ from bonsainet.ask.accepted import Wanted, class_of
 from bonsainet.cli.command_line import Refused
 from bonsainet.exporting import frr
 from bonsainet.exporting.writer import Exported
+from bonsainet.lab.down import Down
 from bonsainet.lab.enclosure import run_plan
 from bonsainet.lab.held import accepted, labels_of
 from bonsainet.lab.plan import plan_of
@@ -55,6 +56,17 @@ class Rested:
     labels: dict[str, dict[str, Label]]
     exported: Exported
     plain: dict[str, str] | None = None
+
+
+@dataclasses.dataclass
+class Lost:
+    """What a lab came to after a loss: seconds of rest before it, none where tables still changed then, seconds until rest
+    after it, and labels for each prefix."""
+
+    before: float | None
+    rest: float
+    held: dict
+    labels: dict[str, dict[str, Label]]
 
 
 @dataclasses.dataclass(frozen=True)
@@ -112,6 +124,18 @@ def run_lab(case: Case, waiting: Waiting, exported: Exported) -> Rested:
         labels,
         exported,
     )
+
+
+def run_loss(case: Case, waiting: Waiting, exported: Exported, down: Down) -> Lost:
+    """Runs a case on FRR until it rests, takes something down, and waits for rest again. Where the tables of the whole
+    network still change at the end of the time, it goes on. Refused where it could not, with the reason."""
+    prefixes = list(case.of_class.prefixes)
+    record = run_plan(plan_of(case.network, exported, prefixes, [down]), waiting.seconds, waiting.quiet)
+    (after,) = record["losses"]
+    if "fault" in after:
+        raise Refused(f"the lab without {down.word}: {after['fault']}")
+    labels = {prefix: labels_of(case.network, after["held"], prefix) for prefix in prefixes}
+    return Lost(record["rest"], after["rest"], after["held"], labels)
 
 
 def judge(program: Program, case: Case, rested: Rested) -> Verdict:

@@ -21,13 +21,31 @@ class NoRest(Exception):
     have."""
 
 
-class Watch:
-    """Looks at all routers again and again."""
+class StillChanges(NoRest):
+    """All sessions stand, and tables still change at the end of the time."""
 
-    def __init__(self, plan: Plan, speakers: dict[str, Vty]) -> None:
+
+class SessionTooMany(NoRest):
+    """A router has a session that the network does not have."""
+
+
+class Watch:
+    """Looks at all routers again and again. `may_linger`: sessions of what was just lost may stand for a while."""
+
+    def __init__(self, plan: Plan, speakers: dict[str, Vty], may_linger: bool = False) -> None:
         self.plan = plan
         self.speakers = speakers
-        self.look = look_bgp if plan.protocol == "bgp" else look_ospf
+        self.may_linger = may_linger
+        self._look = look_bgp if plan.protocol == "bgp" else look_ospf
+
+    def look(self, router: RouterPlan, vty: Vty) -> tuple[str | None, object]:
+        """What is missing at a router, or none, and the state of its tables."""
+        try:
+            return self._look(router, vty)
+        except SessionTooMany as why:
+            if not self.may_linger:
+                raise
+            return str(why), None
 
     def wait(self, until: float, quiet: float, processes: list[subprocess.Popen[bytes]]) -> float:
         """The time of the last change before all was quiet. NoRest where that does not come, and at once where there is
@@ -48,7 +66,7 @@ class Watch:
             elif looked - changed >= quiet:
                 return changed
             if looked > until:
-                raise NoRest(missing or "tables still change")
+                raise NoRest(missing) if missing else StillChanges("tables still change")
             ended = next((process for process in processes if process.poll() is not None), None)
             if ended:
                 raise NoRest(f"a daemon ended with status {ended.returncode}")
@@ -70,7 +88,8 @@ def look_bgp(router: RouterPlan, vty: Vty) -> tuple[str | None, object]:
     if standing != set(router.peers):
         missing = _difference(router, Counter(router.peers), Counter(standing))
     elif any(peer["inq"] or peer["outq"] for peer in peers.values()):
-        missing = f"{router.name}: messages wait"
+        # (messages wait: a state that no other one equals)
+        return None, object()
     counts = [(address, peer.get("pfxRcd"), peer.get("pfxSnt")) for address, peer in sorted(peers.items())]
     return missing, (told.get("tableVersion"), counts)
 
@@ -116,9 +135,9 @@ def held_ospf(vty: Vty, prefixes: list[str]) -> dict[str, object]:
 
 
 def _difference(router: RouterPlan, wanted: Counter[str], standing: Counter[str]) -> str:
-    """The sessions that are lacking. NoRest where there is one too many: configurations stay as they are, so it does
-    not go away."""
+    """The sessions that are lacking. SessionTooMany where there is one too many: while nothing is taken down it does not
+    go away, as configurations stay as they are."""
     lacking, more = wanted - standing, standing - wanted
     if more:
-        raise NoRest(f"{router.name}: a session with {next(iter(more))} that the network does not have")
+        raise SessionTooMany(f"{router.name}: a session with {next(iter(more))} that the network does not have")
     return f"{router.name}: no session with {next(iter(lacking))} ({sum(lacking.values())} lacking)"

@@ -6,19 +6,32 @@ import sys
 from collections import Counter
 
 from bonsainet.ask.accepted import a_class, accepted_text, class_of
-from bonsainet.cli.command_line import name_of, parser, read_input
+from bonsainet.cli.command_line import Refused, name_of, parser, read_input
+from bonsainet.lab.after import expected
+from bonsainet.lab.down import Down, withdrawn
 from bonsainet.lab.enclosure import refuse_unless_able
-from bonsainet.lab.lab import Waiting, case_of, export_told, judge, run_lab
+from bonsainet.lab.lab import Case, Waiting, case_of, export_told, judge, run_lab, run_loss
 from bonsainet.lab.round_trip import MEBI, outcome, run_round, table
 from bonsainet.lab.ties import run_with_ties
-from bonsainet.ask.labels import solution_text
-from bonsainet.ask.program import Program
+from bonsainet.ask.labels import Label, solution_text
+from bonsainet.ask.program import NotAnswered, Program, Status
 from bonsainet.ask.where import judged_by
 from bonsainet.nets.random_networks import PREFIX, random_text
 from bonsainet.cli.words import counted
 
 STATUS_NOT_STABLE = 6
-STATUSES = ((f"{STATUS_NOT_STABLE}", "The routers came to rest in labels that are not stable, as after a tie."),)
+STATUSES = (
+    (
+        f"{STATUS_NOT_STABLE}",
+        "The routers came to rest in labels that are not stable, or are no solution, as after a tie.",
+    ),
+)
+WITHOUT = (
+    "wait for rest, take routers and links down for real, and compare what is left at rest with all solutions of "
+    "`bonsai-ask F N without DOWN solutions`. DOWN: routers A, and A:B for all links between two, with commas. Of a router "
+    "all interfaces go down and the daemons are ended, of a link both interfaces go down"
+)
+TIE_WORDS = {"communities": "their communities", "path": "the lone routers on their paths"}
 
 
 def _seconds(word: str) -> float:
@@ -34,7 +47,7 @@ def tell(line: str) -> None:
     print(line, file=sys.stderr, flush=True)
 
 
-def _words(name: str, purpose: str, ties: tuple[str, ...], argv: list[str] | None) -> argparse.Namespace:
+def _parser(name: str, purpose: str, ties: tuple[str, ...]) -> argparse.ArgumentParser:
     made = parser(name, purpose, STATUSES)
     made.add_argument("text", metavar="TEXT", help="a text that bonsai accepts, or - for standard input")
     made.add_argument("number", metavar="N", type=a_class, help="the class: its number, a prefix of it, or an address")
@@ -46,7 +59,7 @@ def _words(name: str, purpose: str, ties: tuple[str, ...], argv: list[str] | Non
     )
     made.add_argument("--seconds", type=_seconds, default=300.0, help="how long to wait for rest (default: 300)")
     made.add_argument("--quiet", type=_seconds, default=3.0, help="how long no table may change at rest (default: 3)")
-    return made.parse_args(argv)
+    return made
 
 
 def _text(program: Program, name: str) -> str:
@@ -55,27 +68,68 @@ def _text(program: Program, name: str) -> str:
 
 def lab(argv: list[str] | None = None) -> int:
     """Runs a text on FRR and prints what the routers hold for a class, for each of its prefixes."""
-    words = _words("bonsai-lab", lab.__doc__ or "", ("frr", "model"), argv)
+    made = _parser("bonsai-lab", lab.__doc__ or "", ("frr", "model"))
+    made.add_argument("--without", metavar="DOWN", help=WITHOUT)
+    words = made.parse_args(argv)
+    if words.without is not None and words.ties != "frr":
+        made.error("--without leaves ties to FRR: give no --ties with it")
     refuse_unless_able()
     program = Program()
     case = case_of(program, _text(program, words.text), name_of(words.text), words.number)
     waiting = Waiting(words.seconds, words.quiet)
+    if words.without is not None:
+        return _without(made, program, case, waiting, words.without)
     rested = run_lab(case, waiting, export_told(case, tell))
     verdict = judge(program, case, rested)
     if words.ties == "model":
         rested, verdict = run_with_ties(program, case, rested, waiting)
-    texts = list(dict.fromkeys(solution_text(labels) for labels in rested.labels.values()))
-    sys.stdout.write(texts[0])
-    if len(texts) > 1:
-        tell(
-            f"the routers hold {len(texts)} different solutions for the {len(rested.labels)} prefixes of the class; the first prefix's is written"
-        )
+    _write(rested.labels)
     sizes = f"{counted(len(case.network.devices), 'router')}, {counted(rested.processes, 'daemon')}"
     tell(f"{sizes}, {rested.memory / MEBI:.0f} MiB, at rest after {rested.rest:.1f} s: {verdict.word}")
     tell(judged_by(program.identity))
     if verdict.tie:
         tell(f"tie: {verdict.tie}")
     return 0 if verdict.is_stable else STATUS_NOT_STABLE
+
+
+def _write(labels: dict[str, dict[str, Label]]) -> None:
+    """Writes what the routers hold for the first prefix, and says where they hold something else for another one."""
+    texts = list(dict.fromkeys(map(solution_text, labels.values())))
+    sys.stdout.write(texts[0])
+    if len(texts) > 1:
+        tell(
+            f"the routers hold {len(texts)} different solutions for the {len(labels)} prefixes of the class; the first prefix's is written"
+        )
+
+
+def _without(made: argparse.ArgumentParser, program: Program, case: Case, waiting: Waiting, word: str) -> int:
+    """The lab with something taken down."""
+    ask = Program(name="bonsai-ask")
+    answer = ask.ask("F", str(case.number), "without", word, "count", texts={"F": case.text})
+    if answer.status == Status.USAGE:
+        made.error(f"argument --without: no routers `A` and links `A:B` with commas between them: {word!r}")
+    if answer.status != Status.DONE:
+        raise NotAnswered(answer, f"without {word}")
+    down = Down.of(word)
+    gone = sorted(withdrawn(case.network, down) & set(case.of_class.prefixes))
+    if gone:
+        raise Refused(
+            f"{gone[0]}, of class {case.number}, is the subnet of a wire that goes down: routers withdraw it, and `without` does not"
+        )
+    said = expected(program, ask, case.text, case.network, case.of_class, down)
+    rested = run_loss(case, waiting, export_told(case, tell), down)
+    _write(rested.labels)
+    before = f"after {rested.before:.1f} s" if rested.before is not None else "not, tables still changed,"
+    tell(f"{counted(len(case.network.devices), 'router')}, at rest {before} with all up")
+    places = {prefix: said.place_of(labels) for prefix, labels in rested.labels.items()}
+    none = [prefix for prefix, place in places.items() if place is None]
+    found = f"solution {next(iter(places.values()))} of {len(said.solutions)}" if not none else "no solution"
+    tell(f"without {word}: at rest after {rested.rest:.1f} s: {found}")
+    tell(judged_by(program.identity))
+    tell(judged_by(ask.identity))
+    if none and said.tie:
+        tell(f"tie: {said.tie.router} has offers that tie after the second key and differ in {TIE_WORDS[said.tie.by]}")
+    return STATUS_NOT_STABLE if none else 0
 
 
 def random_rounds(argv: list[str] | None = None) -> int:
@@ -109,7 +163,7 @@ def random_rounds(argv: list[str] | None = None) -> int:
 
 def round_trip(argv: list[str] | None = None) -> int:
     """Runs a network and its compressed one on FRR, has both judged, and carries the small answer back."""
-    words = _words("round-trip", round_trip.__doc__ or "", ("both", "frr", "model"), argv)
+    words = _parser("round-trip", round_trip.__doc__ or "", ("both", "frr", "model")).parse_args(argv)
     refuse_unless_able()
     program = Program()
     text = _text(program, words.text)

@@ -6,7 +6,7 @@ from hypothesis import strategies as st
 from bonsainet.exporting import frr
 from bonsainet.nets.fat_tree import fat_tree_text
 from bonsainet.lab.held import accepted, label_of, labels_of
-from bonsainet.lab.inside import hardware_address, link_commands, port_commands
+from bonsainet.lab.namespaces import hardware_address, link_commands, port_commands
 from bonsainet.lab.plan import Plan, daemon_files, plan_of
 from bonsainet.lab.rest import NoRest, adjacencies_missing
 from bonsainet.lab.ties import ranks_of
@@ -158,5 +158,7 @@ def test_subnets_without_a_link_are_wired_so_that_a_lacking_line_shows() -> None
 def test_the_other_end_of_a_pair_is_named() -> None:
     made = plan("two-routers.cfg")
     (space, port, _), (_, _, far) = made.wires[0]
-    assert f"neigh add {far} lladdr {hardware_address(0, 1)} dev {port} nud permanent\n" in port_commands(made)[space]
+    assert (
+        f"neigh replace {far} lladdr {hardware_address(0, 1)} dev {port} nud permanent\n" in port_commands(made)[space]
+    )
     assert hardware_address(70000, 1) == "02:00:01:11:70:01"
