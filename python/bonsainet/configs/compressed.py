@@ -1,24 +1,27 @@
 """A class as a tool shows it: what the program says of its groups, and the network that `compress` writes."""
 from __future__ import annotations
 
-import concurrent.futures
 import dataclasses
-import itertools
-import os
-import sys
-from collections.abc import Callable, Hashable, Iterable, Sequence
-from typing import TypeVar
+import functools
+import hashlib
+import re
+from collections.abc import Callable, Hashable, Iterator, Sequence
+from itertools import islice
+from typing import Any
 
 from bonsainet.ask.accepted import Wanted, accepted_classes, class_of
+from bonsainet.ask.frames import frames_of
 from bonsainet.cli.command_line import Refused
 from bonsainet.configs.network import End, Network, read_network
 from bonsainet.configs.profile import Device
-from bonsainet.ask.program import Class, Group, NotAnswered, Program, Size, Status
+from bonsainet.ask.program import Answer, Class, Group, NotAnswered, Program, Size, Status, report_of
+from bonsainet.ask.shares import side_by_side
+from bonsainet.cli.progress import counted_off
 from bonsainet.cli.words import counted
 
-Item = TypeVar("Item")
-Made = TypeVar("Made")
-AT_ONCE = min(4, os.cpu_count() or 1)
+AT_A_TIME = 64
+NOTHING = read_network("", "")
+MEMBERS = re.compile(r"^! member \S+\n", re.M)
 
 
 @dataclasses.dataclass(frozen=True)
@@ -40,7 +43,7 @@ class Compressed:
 
     @property
     def shape(self) -> Hashable:
-        """All of the compressed network but for the prefixes of the class: classes of one shape differ in nothing
+        """All of the compressed network except the prefixes of the class: classes of one shape differ in nothing
         else."""
         if self.refusal:
             return self.number
@@ -55,6 +58,15 @@ class Compressed:
             tuple((_end_shape(link.low), _end_shape(link.high)) for link in self.network.links),
         )
 
+    @functools.cached_property
+    def shape_sum(self) -> bytes:
+        """A checksum of the shape."""
+        return hashlib.sha256(repr(self.shape).encode()).digest()
+
+    def without_network(self) -> Compressed:
+        """The same without the compressed network, which takes most of its memory. Its shape is another one."""
+        return dataclasses.replace(self, network=NOTHING)
+
     def group_of(self) -> dict[str, Group]:
         """The group of each router."""
         return {member: group for group in self.groups for member in group.members}
@@ -62,74 +74,68 @@ class Compressed:
 
 @dataclasses.dataclass(frozen=True)
 class Asked:
-    """An accepted text, what it means, its classes and their sizes."""
+    """An accepted text, what it means, and its classes."""
 
     name: str
     text: str
     network: Network
     classes: list[Class]
-    sizes: dict[int, Size]
 
-    def compress(self, program: Program, wanted: Wanted) -> Compressed:
-        """The class of a number, a prefix or an address. Refused where there is none, or where what was read differs
-        from what the program counts."""
-        found = class_of(self.classes, wanted, self.name)
-        number = found.number
-        groups = program.groups(self.text, number)
-        answer = program.ask("compress", "F", str(number), texts={"F": self.text})
+    def compress(self, program: Program, wanted: Wanted, said: ClassSaid | None = None) -> Compressed:
+        """The class of a number, a prefix or an address, which is asked alone, unless what the program says of it is given.
+        Refused where there is none, or where what was read differs from what the program counts."""
+        number = class_of(self.classes, wanted, self.name).number
+        report, answer = said or class_said(program, self.text, number)
+        if report.status != Status.DONE:
+            raise NotAnswered(report, "report")
         if answer.status not in (Status.DONE, Status.REFUSED):
             raise NotAnswered(answer, "compress")
         refusal = None if answer.status == Status.DONE else answer.reason.removeprefix("refused: ")
-        small = read_network(answer.text, f"class-{number}.cfg")
-        size = self.sizes[number]
+        return self._compressed(number, report.text, answer.text, refusal)
+
+    def compress_each(self, numbers: Sequence[int]) -> Iterator[Compressed]:
+        """Several classes, ascending, asked at once."""
+        for report, small in frames_of(self.text, ("report", "compress"), numbers):
+            text = small.text if small.refusal is None else ""
+            yield self._compressed(report.number, report.text, text, small.refusal)
+
+    def compress_some(self, numbers: Sequence[int]) -> Iterator[list[Compressed]]:
+        """The same, as many at a time as are kept in memory, with progress on a terminal."""
+        each = counted_off("classes", len(numbers), self.compress_each(numbers))
+        while some := list(islice(each, AT_A_TIME)):
+            yield some
+
+    def _compressed(self, number: int, report: str, text: str, refusal: str | None) -> Compressed:
+        size, groups = report_of(report)
+        _must_agree(self.name, self.network, size.routers, size.links)
+        # (its notes of members say what the groups say, and are most of its lines)
+        small = read_network(MEMBERS.sub("", text), f"class-{number}.cfg")
         if refusal is None:
             _must_agree(f"compress of class {number}", small, size.groups, size.links_after)
-        return Compressed(found, size, groups, answer.text, small, refusal)
-
-    def compress_each(
-        self, program: Program, numbers: Sequence[int], teller: str = "", of: range | None = None
-    ) -> list[Compressed]:
-        """Several classes, asked side by side. A tool that gives its name tells on a terminal how many are done: of these
-        classes, or from the first of a range to its last."""
-        if not teller or not sys.stderr.isatty():
-            return side_by_side(lambda number: self.compress(program, number), numbers)
-        told = of or range(len(numbers))
-        done = itertools.count(told.start + 1)
-
-        def compress_and_tell(number: int) -> Compressed:
-            found = self.compress(program, number)
-            classes = counted(told.stop, "class", "classes")
-            print(f"\r{teller}: {next(done)} of {classes} ", end="", file=sys.stderr, flush=True)
-            return found
-
-        try:
-            return side_by_side(compress_and_tell, numbers)
-        finally:
-            print(file=sys.stderr)
+        return Compressed(self.classes[number - 1], size, groups, text, small, refusal)
 
 
-def side_by_side(work: Callable[[Item], Made], items: Iterable[Item]) -> list[Made]:
-    """What some work makes of each item, in order; a fault or an interrupt leaves out what had not begun."""
-    pool = concurrent.futures.ThreadPoolExecutor(AT_ONCE)
-    try:
-        return list(pool.map(work, items))
-    finally:
-        pool.shutdown(cancel_futures=True)
+ClassSaid = tuple[Answer, Answer]
+"""What the program says to `report` and `compress` of a class."""
 
 
-def asked(program: Program, raw: bytes, name: str, numbers: Sequence[Wanted] | None = None) -> Asked:
-    """What the program says of a text: of all its classes, or of these alone. Refused where it does not accept the text."""
-    classes = accepted_classes(program, raw, name)
-    text = raw.decode("ascii")
-    if numbers is None:
-        sizes = {size.number: size for size in program.summary(raw)}
-    else:
-        wanted = [class_of(classes, number, name).number for number in numbers]
-        sizes = {number: program.size(raw, number) for number in wanted}
-    network = read_network(text, name)
-    for size in list(sizes.values())[:1]:
-        _must_agree(name, network, size.routers, size.links)
-    return Asked(name, text, network, classes, sizes)
+def class_said(program: Program, text: str | bytes, number: int) -> ClassSaid:
+    """What the program says of a class alone."""
+    report, small = side_by_side(
+        lambda command: program.ask(command, "F", str(number), texts={"F": text}), ("report", "compress"), 2
+    )
+    return report, small
+
+
+def asked(program: Program, raw: bytes, name: str) -> Asked:
+    """What the program says of a text. Refused where it does not accept it."""
+    # (the text is read here while the program reads it; a text that is refused is refused first)
+    works: tuple[Callable[[], Any], ...] = (
+        lambda: accepted_classes(program, raw, name),
+        lambda: read_network(raw.decode("ascii"), name),
+    )
+    classes, network = side_by_side(lambda work: work(), works, 2)
+    return Asked(name, raw.decode("ascii"), network, classes)
 
 
 def policy_lines(device: Device, name: str) -> list[str]:
@@ -152,7 +158,7 @@ def _end_shape(end: End) -> Hashable:
 
 
 def _must_agree(name: str, network: Network, routers: int, links: int) -> None:
-    """A fault of ours is told and never drawn."""
+    """A fault of ours is reported and never drawn."""
     if (len(network.devices), len(network.links)) != (routers, links):
         found = f"{counted(len(network.devices), 'router')} and {counted(len(network.links), 'link')}"
         raise Refused(f"{name}: read here with {found}, where the program counts {routers} and {links}")

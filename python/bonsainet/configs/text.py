@@ -6,6 +6,7 @@ configurations of all routers one after the other, each ended by a top line ``en
 from __future__ import annotations
 
 import dataclasses
+import functools
 from collections.abc import Iterable, Iterator
 
 
@@ -28,9 +29,9 @@ class Line:
     text: str
     place: Place
 
-    @property
+    @functools.cached_property
     def words(self) -> list[str]:
-        """The words of the line."""
+        """The words of the line, which nobody changes: they are cut once."""
         return self.text.split()
 
     @property
@@ -38,10 +39,10 @@ class Line:
         """Whether the line belongs to the stanza above it."""
         return self.text[:1] in (" ", "\t")
 
-    @property
+    @functools.cached_property
     def is_blank(self) -> bool:
         """Whether the line has no words, or is a comment."""
-        return not self.text.strip() or self.text.lstrip().startswith("!")
+        return self.text.lstrip()[:1] in ("", "!")
 
     def with_text(self, text: str) -> Line:
         """The same place with another text."""
@@ -62,9 +63,7 @@ class Stanza:
 
     def starts(self, *words: str) -> bool:
         """Whether the head begins with these words."""
-        text = self.head.text
-        # (most heads begin with another word, which is seen sooner than the words are cut)
-        return not words or words[0] in text and text.split(None, len(words))[: len(words)] == list(words)
+        return self.head.words[: len(words)] == list(words)
 
 
 @dataclasses.dataclass
@@ -85,7 +84,8 @@ class Router:
 
     def with_head(self, *words: str) -> Iterator[Stanza]:
         """The stanzas whose head begins with these words, in order."""
-        return (stanza for stanza in self.stanzas if stanza.starts(*words))
+        wanted, count = list(words), len(words)
+        return (stanza for stanza in self.stanzas if stanza.head.words[:count] == wanted)
 
 
 def lines_of(text: str, file: str) -> list[Line]:

@@ -53,6 +53,7 @@ FREE_TEXT = (
     "banner",
 )
 LONGEST = 1000
+PLAIN = re.compile(r"[\t\x20-\x7e]*")
 
 
 def cleaned(lines: list[Line], log: Log, is_frr: bool) -> list[Line]:
@@ -67,8 +68,11 @@ def cleaned(lines: list[Line], log: Log, is_frr: bool) -> list[Line]:
 
 def _without_paging(lines: list[Line], log: Log) -> Iterator[Line]:
     for line in lines:
-        text = MORE.sub("", line.text)
-        text = _typed_over(text)
+        text = line.text
+        if "-" in text and "ore" in text:
+            text = MORE.sub("", text)
+        if "\b" in text:
+            text = _typed_over(text)
         if text != line.text:
             log.by(line, PAGING)
             if text.strip():
@@ -90,7 +94,8 @@ def _typed_over(text: str) -> str:
 
 def _without_prompts(lines: list[Line], log: Log) -> Iterator[Line]:
     for line in lines:
-        if PROMPTED.match(line.text) or TYPED.match(line.text):
+        is_typed = ("#" in line.text or ">" in line.text) and PROMPTED.match(line.text)
+        if is_typed or TYPED.match(line.text):
             log.by(line, PROMPT)
         else:
             yield line
@@ -99,7 +104,7 @@ def _without_prompts(lines: list[Line], log: Log) -> Iterator[Line]:
 def _without_banners(lines: list[Line], log: Log) -> Iterator[Line]:
     rest = iter(lines)
     for line in rest:
-        head = BANNER_HEAD.match(line.text)
+        head = BANNER_HEAD.match(line.text) if line.text.startswith("banner") else None
         if not head:
             yield line
             continue
@@ -130,7 +135,7 @@ def _without_certificates(lines: list[Line], log: Log) -> Iterator[Line]:
 def _ascii(line: Line, log: Log) -> Line:
     """The line with `?` for what is outside ASCII, and cut, where it has no bearing; others are refused."""
     text = line.text
-    is_plain = all(0x20 <= ord(letter) < 0x7F or letter == "\t" for letter in text)
+    is_plain = PLAIN.fullmatch(text) is not None
     if is_plain and len(text) <= LONGEST:
         return line
     if not is_free_text(line):

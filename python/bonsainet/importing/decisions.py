@@ -18,6 +18,7 @@ from __future__ import annotations
 import dataclasses
 import re
 import shlex
+from collections import deque
 from collections.abc import Iterator
 
 from bonsainet.cli.command_line import Refused
@@ -177,6 +178,8 @@ def units(folder: Folder) -> Iterator[Unit]:
 def apply_drops(folder: Folder, guarded: dict[Place, str]) -> None:
     """Leaves out what the decisions drop, and keeps a note of it in the text. `guarded` says of which lines the drop
     makes another network."""
+    if not any(is_drop(found.verb) for found in folder.decisions.all):
+        return
     for router in folder.routers:
         kept = []
         for stanza in router.stanzas:
@@ -220,14 +223,14 @@ def _may_drop(folder: Folder, line: Line, found: Decision, guarded: dict[Place, 
 def _pieces(decisions: Decisions, router: Source, stanza: Stanza) -> Iterator[tuple[list[Line], Decision | None]]:
     """The lines of a body one by one, with the decision that drops each; a dropped line that opens a family or a
     template comes with all lines of it."""
-    rest = list(stanza.body)
+    rest = deque(stanza.body)
     while rest:
-        line = rest.pop(0)
+        line = rest.popleft()
         found = decisions.drop_of(line)
         lines = [line]
         if found and line.words[0] in OPENING:
             while rest and not _is_behind(router, rest[0], line):
-                lines.append(rest.pop(0))
+                lines.append(rest.popleft())
                 if _closes(lines[-1], line):
                     break
         yield lines, found

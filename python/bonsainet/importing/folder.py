@@ -30,7 +30,8 @@ class Source(Router):
     `loopback` is the name that FRR's interface `lo` has in the text: on FRR no other interface is a loopback.
     `unread` are the protocols whose daemons' files stand beside and were not read. A stub is a router that `--stub`
     adds. `carried` are the communities with which it originates a prefix, and the line that says so. `preferences` are,
-    for those of the text that stand for weights too, those of the device.
+    for those of the text that stand for weights too, those of the device. `highest` is the address that is its
+    identifier where no line gives one.
     """
 
     dialect: Dialect = Dialect.IOS
@@ -40,6 +41,7 @@ class Source(Router):
     is_stub: bool = False
     carried: dict[IPv4Network, tuple[frozenset[str], Line]] = dataclasses.field(default_factory=dict)
     preferences: dict[int, int] = dataclasses.field(default_factory=dict)
+    highest: IPv4Address | None = None
 
     def is_loopback(self, stanza: Stanza) -> bool:
         """Whether an interface is a loopback, by its type on IOS and by its old name on FRR."""
@@ -100,12 +102,16 @@ def words_are(line: Line, *words: str) -> bool:
 
 def has(stanza: Stanza, *words: str) -> bool:
     """Whether a line of the body begins with these words."""
-    return any(words_are(line, *words) for line in stanza.body)
+    return first(stanza, *words) is not None
 
 
 def first(stanza: Stanza, *words: str) -> Line | None:
     """The first line of the body that begins with these words."""
-    return next((line for line in stanza.body if words_are(line, *words)), None)
+    wanted, count = list(words), len(words)
+    for line in stanza.body:
+        if line.words[:count] == wanted:
+            return line
+    return None
 
 
 def name_of(stanza: Stanza) -> str:
@@ -130,7 +136,10 @@ def address_given(stanza: Stanza) -> IPv4Interface | None:
 
 def address_of(stanza: Stanza) -> IPv4Interface | None:
     """The primary address of an up interface, else none."""
-    return None if any(line.words == ["shutdown"] for line in stanza.body) else address_given(stanza)
+    for line in stanza.body:
+        if line.words == ["shutdown"]:
+            return None
+    return address_given(stanza)
 
 
 @functools.lru_cache(maxsize=65536)

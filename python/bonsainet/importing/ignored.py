@@ -35,12 +35,23 @@ def heads_of(title: str) -> dict[str, tuple[tuple[str, ...], ...]]:
 
 def longest(words: list[str], heads: tuple[tuple[str, ...], ...]) -> int:
     """The length of the longest head that begins the words, 0 where none does. `*` and `NAME` stand for any word."""
+    by_words = _by_words(heads)
+    near = [head for key in (tuple(words[:1]), tuple(words[:2])) for head in by_words.get(key, ())]
     fitting = (
         len(head)
-        for head in heads
+        for head in near
         if len(words) >= len(head) and all(want in ("*", "NAME", word) for want, word in zip(head, words))
     )
     return max(fitting, default=0)
+
+
+@functools.cache
+def _by_words(heads: tuple[tuple[str, ...], ...]) -> dict[tuple[str, ...], list[tuple[str, ...]]]:
+    """The heads by their first two words, or the first one where the second is none or stands for any."""
+    found: dict[tuple[str, ...], list[tuple[str, ...]]] = {}
+    for head in heads:
+        found.setdefault(head[: 1 if head[1:2] in ((), ("*",), ("NAME",)) else 2], []).append(head)
+    return found
 
 
 def is_ignored(scope: str, text: str) -> bool:

@@ -16,6 +16,7 @@ from pathlib import Path
 
 from bonsainet.cli.command_line import Refused, one_line
 from bonsainet.importing.cleaning import cleaned
+from bonsainet.importing.daemons import without_stopped
 from bonsainet.importing.folder import Dialect, Folder, Source
 from bonsainet.importing.rule import Log, rule
 from bonsainet.configs.text import Line, Place, Stanza, lines_of
@@ -220,6 +221,7 @@ def _read_router_folder(top: Path, path: Path, found: _Reading) -> None:
     for file in files:
         lines = _lines(file, str(file.relative_to(top)), folder)
         whole.stanzas += _frr_stanzas(cleaned(lines, folder.log, True), folder.log)
+    whole.stanzas = without_stopped(whole.stanzas, path, folder.log)
     for other in FRR_OTHERS:
         if (path / other).is_file() and (path / other).read_text("latin-1").strip():
             daemon = other.removesuffix("d.conf")

@@ -11,7 +11,7 @@ from bonsainet.cli.command_line import Refused, printable, shown
 from bonsainet.importing.folder import Folder
 from bonsainet.importing.rule import RULES, Assumption, Refusal
 from bonsainet.importing.scrubbing import hidden
-from bonsainet.configs.text import Place
+from bonsainet.configs.text import Line, Place
 
 
 FAILED = "No report: bonsai-import ended before it"
@@ -128,28 +128,29 @@ class Report:
 
 def report_of(folder: Folder) -> Report:
     """Compares what was read with what stands now. Silent where a line changed and no rule says why."""
-    after: dict[Place, list[str]] = defaultdict(list)
+    stands: dict[Place, list[Line]] = defaultdict(list)
     for router in folder.routers:
         for line in router.lines:
-            after[line.place].append(" ".join(line.words))
+            stands[line.place].append(line)
     refused = {found.place for found in folder.log.refusals}
     changes = []
     for place, raw in folder.raw.items():
-        before = " ".join(raw.split())
+        now = stands.get(place, [])
+        if len(now) == 1 and now[0].text == raw:
+            continue
+        before, after = " ".join(raw.split()), [" ".join(line.words) for line in now]
         rules = folder.log.touched.get(place, [])
-        if not before or (before[0] in "!#" and not rules) or after[place] == [before]:
+        if not before or (before[0] in "!#" and not rules) or after == [before]:
             continue
         if before == "end" and rules:
             continue
         if not rules and place not in refused:
-            raise Silent(
-                f"{place}: {before!r} became {after[place]!r} and no rule says why; this is a fault of bonsai-import"
-            )
+            raise Silent(f"{place}: {before!r} became {after!r} and no rule says why; this is a fault of bonsai-import")
         changes.append(
             Change(
                 place,
                 raw,
-                tuple(after[place]),
+                tuple(after),
                 ", ".join(found.name for found in rules),
                 "; ".join(found.reason for found in rules),
             )

@@ -12,7 +12,8 @@ Decision = tuple[Rule, list[str]] | None
 
 def rewrite(stanza: Stanza, log: Log, decide: Callable[[Line], Decision]) -> None:
     """Rewrites the body: `decide` gives a rule and the texts that stand for the line, or none where it stays."""
-    stanza.body = list(_rewritten(stanza.body, log, decide))
+    if stanza.body:
+        stanza.body = list(_rewritten(stanza.body, log, decide))
 
 
 def cut_lines(stanza: Stanza, log: Log, rule: Rule, is_cut: Callable[[Line], bool]) -> None:
@@ -23,7 +24,7 @@ def cut_lines(stanza: Stanza, log: Log, rule: Rule, is_cut: Callable[[Line], boo
 def begins(line: Line, heads: Iterable[str]) -> bool:
     """Whether a line begins with the words of one of the heads, where `*` stands for any word."""
     words = line.words
-    return bool(words) and any(_fits(words, head) for head in _by_first_word(tuple(heads)).get(words[0], ()))
+    return bool(words) and any(fits(words, head) for head in _by_first_word(tuple(heads)).get(words[0], ()))
 
 
 @functools.lru_cache(maxsize=512)
@@ -35,8 +36,14 @@ def _by_first_word(heads: tuple[str, ...]) -> dict[str, list[list[str]]]:
     return found
 
 
-def _fits(words: list[str], head: list[str]) -> bool:
-    return len(words) >= len(head) and all(want in ("*", word) for want, word in zip(head, words))
+def fits(words: list[str], head: list[str]) -> bool:
+    """Whether words begin with those of a head, where `*` stands for any word."""
+    if len(words) < len(head):
+        return False
+    for want, word in zip(head, words):
+        if want != word and want != "*":
+            return False
+    return True
 
 
 def _rewritten(lines: list[Line], log: Log, decide: Callable[[Line], Decision]) -> Iterable[Line]:

@@ -9,7 +9,7 @@ from collections.abc import Iterator
 
 from bonsainet.cli.command_line import printable
 from bonsainet.importing.decisions import GUARDED, PROTECTED
-from bonsainet.importing.folder import Folder, Source, first, kind_of, name_of
+from bonsainet.importing.folder import Folder, Source, first, has, kind_of, name_of
 from bonsainet.importing.names import SAME
 from bonsainet.importing.rule import Refusal
 from bonsainet.importing.rules.costs import KBITS, NO_COST
@@ -49,7 +49,7 @@ def _decisions(folder: Folder, found: Refusal) -> Iterator[str]:
     elif found.kind == OTHER_AREA:
         yield "  run with --area N, which keeps one area of several"
     elif found.name == NO_COST and router and stanza:
-        yield from _of_cost(router, stanza, found, at)
+        yield from _of_cost(folder, router, stanza, found, at)
     elif found.name == UNDEFINED:
         yield f"undefined {at} {_quoted(found.reason.partition(' ')[0], True)} permit|deny {REASON}"
     elif found.name in SESSIONS and words[:1] == ["neighbor"]:
@@ -60,8 +60,8 @@ def _decisions(folder: Folder, found: Refusal) -> Iterator[str]:
         yield f"{'drop!' if found.name == GUARDED else 'drop'} {at} {_quoted(' '.join(words), True)} {REASON}"
 
 
-def _of_cost(router: Source, stanza: Stanza, found: Refusal, at: str) -> Iterator[str]:
-    name = name_of(stanza)
+def _of_cost(folder: Folder, router: Source, stanza: Stanza, found: Refusal, at: str) -> Iterator[str]:
+    name = _name_read(folder, stanza)
     values = re.search(r"the cost of a loopback is (\d+) or 1", found.reason)
     if values:
         yield f"cost {at} {_quoted(name, True)} {values[1]}|1 {REASON}"
@@ -72,13 +72,20 @@ def _of_cost(router: Source, stanza: Stanza, found: Refusal, at: str) -> Iterato
     yield f"bandwidth {at} {_quoted(name, True)} {sum(members) if members else 'KBITS'} {REASON}"
 
 
+def _name_read(folder: Folder, stanza: Stanza) -> str:
+    """The name that a decision knows an interface by: the one that it was read with, where the profile takes that."""
+    words = folder.raw.get(stanza.head.place, "").split()
+    is_read = words[:1] == ["interface"] and len(words) > 1 and re.search(r"\d", words[1])
+    return words[1] if is_read else name_of(stanza)
+
+
 def _members(router: Source, name: str) -> list[int]:
-    """The bandwidths of the members of a bundle by their types, none where one does not tell."""
+    """The bandwidths of the members of a bundle that are not shut, by their types; none where one does not tell."""
     number = re.fullmatch(r"Port-channel(\d+)", name)
     found = []
     for stanza in router.interfaces if number else ():
         line = first(stanza, "channel-group")
-        if line and number and line.words[1:2] == [number[1]]:
+        if line and number and line.words[1:2] == [number[1]] and not has(stanza, "shutdown"):
             if kind_of(name_of(stanza)) not in KBITS or first(stanza, "speed"):
                 return []
             found.append(KBITS[kind_of(name_of(stanza))])

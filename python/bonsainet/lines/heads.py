@@ -26,7 +26,7 @@ def scope_under(opener: str | None) -> str:
 
 
 def head_of(kind: str, scope: str, words: Sequence[str]) -> str:
-    """The head by which a refused line is grouped: that of a table, else its first words but for numbers, and `a line`
+    """The head by which a refused line is grouped: that of a table, else its first words except numbers, and `a line`
     where no word counts."""
     if kind in OF_LINES:
         return "a line"

@@ -52,7 +52,7 @@ KINDS = (
     ),
     Kind(
         "WellKnown",
-        "a line that fits its form but for a well-known community",
+        "a line that fits its form except for a well-known community",
         " set community no-export",
         "Bonsai does not model what such a community does: write it with lists and maps on the sessions where it acts. `tools/bonsai-import` does so for `no-export`, `no-advertise` and `local-AS`",
     ),
@@ -145,7 +145,7 @@ KINDS = (
         "NoCost",
         "the `ip address` line of an up interface in the area without `ip ospf cost`, whose type has no [default cost](#default-costs)",
         " ip address 10.0.0.1 255.255.255.252",
-        "give `ip ospf cost` as `show ip ospf interface` tells it. Do not guess 1: other costs are other groups",
+        "give `ip ospf cost` as `show ip ospf interface` prints it. Do not guess 1: other costs are other groups",
     ),
     Kind("TooManyRouters", "the `hostname` line of router 4,097", "hostname r4096", "ask about a part of the network"),
     Kind(

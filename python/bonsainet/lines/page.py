@@ -1,6 +1,7 @@
 """The tables of docs/use/LINES.md that are made from data, each between two marks on the page."""
 from __future__ import annotations
 
+import functools
 import re
 from collections.abc import Callable, Iterable
 
@@ -49,12 +50,16 @@ TABLES: dict[str, Callable[[], str]] = {
 }
 
 
+def _between(table: str, found: re.Match[str]) -> str:
+    return found[1] + table + found[2]
+
+
 def with_tables(page: str) -> str:
     """The page with its tables as the data have them."""
     for name, table in TABLES.items():
         page = re.sub(
             rf"(<!-- {name}: begin -->\n).*?(<!-- {name}: end -->)",
-            lambda found, made=table(): found[1] + made + found[2],
+            functools.partial(_between, table()),
             page,
             flags=re.DOTALL,
         )

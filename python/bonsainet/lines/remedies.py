@@ -88,7 +88,7 @@ REFUSED = (
     _of(
         "router bgp",
         "bgp | no bgp",
-        f"each such line changes which routes are chosen or carried, or only timers and logs. `tools/bonsai-import` knows the bearing of many; else: {ELSE}",
+        f"each such line changes which routes are chosen or carried, or only timers and logs. `tools/bonsai-import` knows the bearing of many. Instead of `bgp listen range` write a `neighbor` line for each neighbour that it lets in: without them there are no sessions here. Else: {ELSE}",
     ),
     _of(
         "router bgp",
@@ -150,7 +150,7 @@ REFUSED = (
     _of(
         "router ospf",
         "area",
-        f"authentication may go. Of several areas `tools/bonsai-import --area N` keeps one. Ranges and virtual links are outside the profile. {OTHERWISE}",
+        f"write the authentication of an area as `ip ospf authentication` of its interfaces, and ask bonsai-doubts whether both ends have it. {IMPORT}. Of several areas `tools/bonsai-import --area N` keeps one. Ranges and virtual links are outside the profile. {OTHERWISE}",
     ),
     _of(
         "router ospf",

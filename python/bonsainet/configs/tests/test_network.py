@@ -50,6 +50,7 @@ def test_unmatched_neighbours() -> None:
 
 def test_lines_of_both_ends_are_at_hand() -> None:
     link = network_of("edge-and-provider.cfg").links[0]
+    assert link.low.neighbor and link.high.neighbor
     assert (link.low.neighbor.map_in, link.high.neighbor.list_in) == ("FROM-PROVIDER", "CUSTOMER-64510")
     assert str(link.low.neighbor.line.place) == "edge-and-provider.cfg:23"
 

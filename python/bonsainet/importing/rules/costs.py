@@ -7,7 +7,7 @@ from bonsainet.importing.folder import Dialect, Folder, Source, first, has, inde
 from bonsainet.importing.rewriting import cut_lines
 from bonsainet.importing.rule import rule
 from bonsainet.importing.rules.options import Options
-from bonsainet.importing.rules.ospf import in_area
+from bonsainet.importing.rules.ospf import Active, active_wires, in_area
 from bonsainet.configs.text import Line, Stanza
 
 COST = rule(
@@ -53,6 +53,8 @@ PROFILE_COSTS = {
     "Ethernet": 10,
     "Serial": 64,
 }
+WIRED = tuple(kind for kind in KBITS if kind.endswith(("Ethernet", "GigE")))
+DIRECT = 30
 LARGEST = 65_535
 IOS_REFERENCE = 100
 FRR_REFERENCE = 100_000
@@ -68,6 +70,42 @@ def write_costs(folder: Folder, _options: Options) -> None:
             cut_lines(stanza, folder.log, BANDWIDTH, lambda line: line.words[0] == "bandwidth")
         for process in router.with_head("router", "ospf"):
             cut_lines(process, folder.log, COST, lambda line: line.words[0] == "auto-cost")
+
+
+def compare_speeds(folder: Folder, _options: Options) -> None:
+    """Refuses a cost that follows from the speed of an interface whose other end is slower: on a wire of two ends both
+    have the speed of the slower one."""
+    for subnet, wire in active_wires(folder).items():
+        if len(wire) != 2 or subnet.prefixlen < DIRECT or wire[0].router is wire[1].router:
+            continue
+        for end, far in (tuple(wire), tuple(reversed(wire))):
+            own, other = _fastest(end), _fastest(far)
+            if own is None or other is None or own <= other or _is_given(folder, end):
+                continue
+            costs = [_cost(end.router, speed) for speed in (own, other)]
+            line = first(end.stanza, "ip", "address") or end.stanza.head
+            if costs[0] != costs[1]:
+                folder.log.refuse(
+                    line,
+                    NO_COST,
+                    f"its other end, {name_of(far.stanza)} of {far.router.name}, takes {other} kbit/s at most, and at that speed the cost is {costs[1]} and not {costs[0]}: decide `bandwidth` or `cost`",
+                )
+
+
+def _fastest(end: Active) -> int | None:
+    """The speed in kbit/s that a port of a device takes at most, or none where its type does not tell."""
+    kind = kind_of(name_of(end.stanza))
+    if end.router.dialect is not Dialect.IOS or kind not in WIRED:
+        return None
+    speeds = _speeds(_main_interface(end.router, name_of(end.stanza)) or end.stanza)
+    return max(speeds) * 1000 if speeds else KBITS[kind]
+
+
+def _is_given(folder: Folder, end: Active) -> bool:
+    """Whether a line or a person gives the cost or the bandwidth of an interface."""
+    line, name = first(end.stanza, "ip", "address") or end.stanza.head, name_of(end.stanza)
+    is_decided = any(folder.decisions.find(verb, line, name) for verb in ("cost", "bandwidth"))
+    return is_decided or has(end.stanza, "ip", "ospf", "cost") or has(end.stanza, "bandwidth")
 
 
 def reference_of(router: Source) -> int:
@@ -147,7 +185,7 @@ def _kbits(folder: Folder, router: Source, stanza: Stanza, line: Line) -> int | 
     if given:
         return int(given.words[1])
     main = _main_interface(router, name)
-    if main and (has(main, "bandwidth") or _speed(main)):
+    if main and (has(main, "bandwidth") or _speeds(main)):
         folder.log.refuse(
             line,
             NO_COST,
@@ -159,14 +197,25 @@ def _kbits(folder: Folder, router: Source, stanza: Stanza, line: Line) -> int | 
             line, NO_COST, f"the bandwidth of {name} does not follow from its type: decide `bandwidth` or `cost`"
         )
         return None
-    speed = _speed(stanza)
-    return speed * 1000 if speed else KBITS[kind_of(name)]
+    speeds = _speeds(stanza)
+    costs = {_cost(router, speed * 1000) for speed in speeds}
+    if len(costs) > 1:
+        at = first(stanza, "speed") or line
+        folder.log.refuse(
+            at,
+            NO_COST,
+            f"{name} takes one of several speeds, and its cost hangs on which: decide `bandwidth` or `cost`",
+        )
+        return None
+    return speeds[0] * 1000 if speeds else KBITS[kind_of(name)]
 
 
-def _speed(stanza: Stanza) -> int | None:
-    """The speed in Mbit/s that a line sets, or none."""
+def _speeds(stanza: Stanza) -> list[int]:
+    """The speeds in Mbit/s of which a line leaves one, or none where it says nothing: `speed 100`, `speed auto 10 100`."""
     found = first(stanza, "speed")
-    return int(found.words[1]) if found and found.words[1:] and found.words[1].isdigit() else None
+    words = found.words[1:] if found else []
+    numbers = words[1:] if words[:1] == ["auto"] else words[:1]
+    return [int(word) for word in numbers if word.isdecimal() and int(word)]
 
 
 def _main_interface(router: Source, name: str) -> Stanza | None:

@@ -103,7 +103,8 @@ def activate(folder: Folder, _options: Options) -> None:
         peers = dict.fromkeys(
             line.words[1] for line in process.body if line.words[:1] == ["neighbor"] and len(line.words) > 2
         )
-        inactive = {peer for peer in peers if not is_active(process, peer, by_default)}
+        given = _named(process, "neighbor") if not by_default else set(peers)
+        inactive = set(peers) - given | set(peers) & _named(process, "no", "neighbor")
         for peer in peers:
             if peer not in inactive and not an_address(peer):
                 line = next(line for line in process.body if line.words[:2] == ["neighbor", peer])
@@ -115,11 +116,13 @@ def activate(folder: Folder, _options: Options) -> None:
         cut_lines(process, folder.log, ACTIVATION, lambda line, inactive=inactive: _goes(line, inactive))
 
 
-def is_active(process: Stanza, peer: str, by_default: bool) -> bool:
-    """Whether a neighbour carries IPv4 unicast routes."""
-    if has(process, "no", "neighbor", peer, "activate"):
-        return False
-    return by_default or has(process, "neighbor", peer, "activate")
+def _named(process: Stanza, *head: str) -> set[str]:
+    """The neighbours that lines of this head activate, or no longer."""
+    count = len(head)
+    lines = (line.words for line in process.body)
+    return {
+        words[count] for words in lines if words[:count] == list(head) and words[count + 1 : count + 2] == ["activate"]
+    }
 
 
 def _goes(line: Line, inactive: set[str]) -> bool:

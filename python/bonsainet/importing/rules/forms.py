@@ -50,6 +50,8 @@ INSIDE = {
     "template": 3,
 }
 
+MOST = max([*TOP.values(), *INSIDE.values()])
+
 
 def refuse_short(folder: Folder, _options: Options) -> None:
     """Refuses lines that have fewer words than their kind."""
@@ -69,7 +71,7 @@ def refuse_short(folder: Folder, _options: Options) -> None:
 
 
 def _is_short(line: Line, known: dict[str, int]) -> bool:
-    return not line.is_blank and len(line.words) < _least(line, known)
+    return len(line.words) < MOST and not line.is_blank and len(line.words) < _least(line, known)
 
 
 def _least(line: Line, known: dict[str, int]) -> int:

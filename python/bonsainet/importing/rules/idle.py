@@ -1,14 +1,19 @@
 """Lines without bearing that the program does not know: they are cut, each with its subject's reason."""
 from __future__ import annotations
 
+import functools
+
 from bonsainet.importing.folder import Folder, Source
-from bonsainet.importing.rewriting import begins, rewrite
+from bonsainet.importing.rewriting import fits, rewrite
 from bonsainet.importing.rule import Rule
-from bonsainet.importing.rules.idle_heads import SUBJECTS
+from bonsainet.importing.rules.idle_heads import SUBJECTS, TIMERS
 from bonsainet.importing.rules.options import Options
 from bonsainet.configs.text import Line, Stanza
 
 SCOPES = {("interface",): "interface", ("router", "bgp"): "bgp", ("router", "ospf"): "ospf", ("route-map",): "entry"}
+
+# A session or adjacency that waits for BFD comes up with it alone.
+STRICT = {"strict", "strict-mode"}
 
 
 def scope_of(stanza: Stanza) -> str | None:
@@ -17,8 +22,22 @@ def scope_of(stanza: Stanza) -> str | None:
 
 
 def subject_of(line: Line, scope: str) -> Rule | None:
-    """The rule of the subject whose heads of a scope cover a line, or none."""
-    return next((subject.rule for subject in SUBJECTS if begins(line, subject.heads(scope))), None)
+    """The rule of the first subject whose heads of a scope cover a line, or none."""
+    words, near = line.words, _heads_of(scope)
+    keys = (tuple(words[:1]), tuple(words[:2]), (*words[:1], "*", *words[2:3]))
+    found = [at for key in keys for at, head in near.get(key, ()) if fits(words, head)]
+    return SUBJECTS[min(found)].rule if found else None
+
+
+@functools.cache
+def _heads_of(scope: str) -> dict[tuple[str, ...], list[tuple[int, list[str]]]]:
+    """The heads of a scope by their first two words, or three where any word may stand between, each with the place of
+    its subject."""
+    found: dict[tuple[str, ...], list[tuple[int, list[str]]]] = {}
+    for at, subject in enumerate(SUBJECTS):
+        for words in map(str.split, subject.heads(scope)):
+            found.setdefault(tuple(words[: 3 if words[1:2] == ["*"] else 2]), []).append((at, words))
+    return found
 
 
 def cut_idle(folder: Folder, _options: Options) -> None:
@@ -41,4 +60,6 @@ def _is_cut(folder: Folder, router: Source, stanza: Stanza) -> bool:
 
 def _decision(folder: Folder, line: Line, scope: str) -> tuple[Rule, list[str]] | None:
     found = subject_of(line, scope)
-    return (found, []) if found and not folder.takes(scope, line.text) else None
+    if not found or (found is TIMERS.rule and STRICT & set(line.words)):
+        return None
+    return None if folder.takes(scope, line.text) else (found, [])

@@ -45,7 +45,7 @@ TIMERS = Subject(
     bgp=_heads(
         "bgp conditional-advertisement timer | bgp default-originate timer | bgp fast-external-fallover | bgp graceful-restart "
         "| bgp graceful-restart-disable | bgp hard-administrative-reset | bgp keepalive | bgp long-lived-graceful-restart | bgp "
-        "minimum-holdtime | bgp nexthop trigger | bgp refresh | bgp scan-time | bgp session-dscp | bgp slow-peer | bgp tcp-keepalive | "
+        "nexthop trigger | bgp refresh | bgp scan-time | bgp session-dscp | bgp slow-peer | bgp tcp-keepalive | "
         "bgp update-delay | coalesce-time | neighbor * bfd | neighbor * delayopen | neighbor * fall-over | neighbor * "
         "graceful-restart | neighbor * graceful-restart-disable | neighbor * graceful-restart-helper | neighbor * ha-mode | "
         "neighbor * slow-peer | neighbor * timers | neighbor * update-delay | no bgp fast-external-fallover | no bgp "
@@ -151,11 +151,11 @@ SECURITY = Subject(
     interface=_heads(
         "crypto | ip access-group | ip admission | ip arp | ip broadcast-address | ip dhcp | ip directed-broadcast | ip inspect "
         "| ip ips | ip load-sharing | ip local-proxy-arp | ip mask-reply | ip mtu | ip nhrp | ip options | ip ospf "
-        "authentication | ip ospf message-digest-key | ip ospf mtu-ignore | ip ospf ttl-security | ip proxy-arp | ip redirects "
+        "authentication | ip ospf message-digest-key | ip ospf mtu-ignore | ip proxy-arp | ip redirects "
         "| ip tcp | ip unreachables | ip verify | ip virtual-reassembly | ip wccp | no ip dhcp | no ip local-proxy-arp | no ip "
         "mask-reply | no ip nat | no ip ospf authentication | no ip virtual-reassembly | tunnel key | zone-member"
     ),
-    ospf=_heads("area * authentication | no ttl-security | ttl-security"),
+    ospf=_heads("no ttl-security"),
 )
 QUALITY = Subject(
     rule("quality-of-service", "queues and marks choose among packets and not among routes", "RFC 2474"),

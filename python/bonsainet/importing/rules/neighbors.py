@@ -2,6 +2,7 @@
 from __future__ import annotations
 
 import dataclasses
+from collections import defaultdict
 from collections.abc import Iterator
 from ipaddress import IPv4Address, IPv4Network
 
@@ -36,7 +37,7 @@ ON_LINK = rule(
 )
 LIMIT = rule(
     "maximum-prefix",
-    "the folder originates fewer prefixes than the limit, so it is never reached",
+    "the folder has no more prefixes than the limit, so it is never passed",
     "Cisco IOS BGP, `neighbor maximum-prefix`",
 )
 STUB_LIMIT = rule(
@@ -72,7 +73,7 @@ MASKS = "mask-mismatch"
 @dataclasses.dataclass
 class Peer:
     """A neighbour of a process: its address and the word that names it, the router and interface that have it (none
-    where it is not in the folder), and the own interface towards it."""
+    where it is not in the folder), the own interface towards it, and its lines as they stood when it was looked for."""
 
     router: Source
     process: Stanza
@@ -80,16 +81,7 @@ class Peer:
     far: tuple[Source, Stanza] | None
     near: Stanza | None
     name: str
-
-    @property
-    def lines(self) -> list[Line]:
-        """Its lines."""
-        return [
-            line
-            for line in self.process.body
-            if self.name in line.text
-            and (line.words[:2] == ["neighbor", self.name] or line.words[:3] == ["no", "neighbor", self.name])
-        ]
+    lines: list[Line]
 
     def line(self, *words: str) -> Line | None:
         """Its first line with these words."""
@@ -102,12 +94,27 @@ class Peer:
             return False
         return address_of(self.far[1]).network == address_of(self.near).network
 
-    @property
-    def back(self) -> Peer | None:
+
+class Ends:
+    """The neighbours of all routers, and from each the one that names it back."""
+
+    def __init__(self, folder: Folder) -> None:
+        up = folder.up
+        self.all = [peer for router in folder.routers for peer in peers_of(router, up)]
+        self.at = {(id(peer.router), peer.address): peer for peer in reversed(self.all)}
+
+    def back(self, peer: Peer) -> Peer | None:
         """The neighbour of the far router that names the near interface, or none."""
-        if not self.far or not self.near:
+        if not peer.far or not peer.near:
             return None
-        return next((peer for peer in peers_of(self.far[0]) if peer.address == address_of(self.near).ip), None)
+        return self.at.get((id(peer.far[0]), address_of(peer.near).ip))
+
+    def session(self, peer: Peer) -> Peer | None:
+        """The other end of a session that no line shuts, none where there is no such session. A stub is none: nothing is
+        known of its settings."""
+        back = self.back(peer)
+        is_known = back is not None and not back.router.is_stub and not _is_shut(peer) and not _is_shut(back)
+        return back if is_known else None
 
 
 def peers_of(router: Source, up: Up | None = None) -> Iterator[Peer]:
@@ -115,14 +122,25 @@ def peers_of(router: Source, up: Up | None = None) -> Iterator[Peer]:
     process = router.process("bgp")
     if not process:
         return
-    own = [(address_of(stanza), stanza) for stanza in router.interfaces if address_of(stanza)]
-    for word in dict.fromkeys(
-        line.words[1] for line in process.body if line.words[:1] == ["neighbor"] and len(line.words) > 2
-    ):
-        address = an_address(word)
-        if address:
-            near = next((stanza for found, stanza in own if address in found.network and address != found.ip), None)
-            yield Peer(router, process, address, (up or {}).get(address), near, word)
+    own = []
+    for stanza in router.interfaces:
+        if found := address_of(stanza):
+            own.append((int(found.network.network_address), int(found.netmask), int(found.ip), stanza))
+    lines: dict[str, list[Line]] = defaultdict(list)
+    names: dict[str, None] = {}
+    for line in process.body:
+        words = line.words
+        if words[:1] == ["neighbor"] and len(words) > 1:
+            lines[words[1]].append(line)
+            if len(words) > 2:
+                names[words[1]] = None
+        elif words[:2] == ["no", "neighbor"] and len(words) > 2:
+            lines[words[2]].append(line)
+    for word in names:
+        if address := an_address(word):
+            at = int(address)
+            near = next((stanza for base, mask, ip, stanza in own if at & mask == base and at != ip), None)
+            yield Peer(router, process, address, (up or {}).get(address), near, word, lines[word])
 
 
 def numbers(folder: Folder, _options: Options) -> None:
@@ -190,18 +208,20 @@ def leave_out(folder: Folder, peer: Peer, why: Rule) -> None:
 def hops(folder: Folder, _options: Options) -> None:
     """Cuts what says from where and how far a session goes, where both ends are on one subnet, and refuses it
     elsewhere."""
-    up = folder.up
-    peers = [peer for router in folder.routers for peer in peers_of(router, up)]
-    for peer in peers:
+    ends = Ends(folder)
+    whys: dict[int, dict[str, Rule]] = defaultdict(dict)
+    for peer in ends.all:
         if peer.far and not _is_shut(peer) and not peer.is_on_link:
             _refuse_far(folder, peer)
-        _refuse_hops(folder, peer)
-    for peer in peers:
-        _cut_hops(folder, peer)
+        _refuse_hops(folder, peer, ends)
+        whys[id(peer.process)][peer.name] = ON_LINK if peer.far else ABSENT
+    for router in folder.routers:
+        for process in router.with_head("router", "bgp"):
+            _cut_hops(folder, process, whys[id(process)])
 
 
 def _is_shut(peer: Peer) -> bool:
-    return has(peer.process, "neighbor", peer.name, "shutdown")
+    return peer.line("shutdown") is not None
 
 
 def _refuse_far(folder: Folder, peer: Peer) -> None:
@@ -225,7 +245,7 @@ def _refuse_far(folder: Folder, peer: Peer) -> None:
         folder.log.refuse(peer.line("remote-as"), MULTIHOP, f"the session with {peer.far[0].name} is not on one subnet")
 
 
-def _refuse_hops(folder: Folder, peer: Peer) -> None:
+def _refuse_hops(folder: Folder, peer: Peer, ends: Ends) -> None:
     """Refuses what keeps a session down: both ends are looked at as they were read, so none is cut before all are
     judged."""
     source = peer.line("update-source")
@@ -236,7 +256,7 @@ def _refuse_hops(folder: Folder, peer: Peer) -> None:
             f"the session starts from {source.words[3]}, which is not the interface in the neighbour's subnet",
         )
     security = peer.line("ttl-security")
-    if security and (back := peer.back) and not back.line("ttl-security"):
+    if security and (back := ends.back(peer)) and not back.line("ttl-security"):
         folder.log.refuse(
             security,
             MULTIHOP,
@@ -244,14 +264,15 @@ def _refuse_hops(folder: Folder, peer: Peer) -> None:
         )
 
 
-def _cut_hops(folder: Folder, peer: Peer) -> None:
-    """Cuts what says from where and how far a session goes."""
-    cut_lines(
-        peer.process,
-        folder.log,
-        ON_LINK if peer.far else ABSENT,
-        lambda line: line.words[:2] == ["neighbor", peer.name] and line.words[2] in HOPS,
-    )
+def _cut_hops(folder: Folder, process: Stanza, whys: dict[str, Rule]) -> None:
+    """Cuts what says from where and how far the session of each neighbour goes."""
+
+    def decide(line: Line) -> tuple[Rule, list[str]] | None:
+        words = line.words
+        is_of_session = words[0] == "neighbor" and len(words) > 2 and words[2] in HOPS
+        return (whys[words[1]], []) if is_of_session and words[1] in whys else None
+
+    rewrite(process, folder.log, decide)
 
 
 def _is_own(peer: Peer, source: str) -> bool:
@@ -261,14 +282,17 @@ def _is_own(peer: Peer, source: str) -> bool:
 def limits(folder: Folder, _options: Options) -> None:
     """Cuts limits on prefixes that are never reached, defaults, and what only says how communities are sent."""
     count = len(all_prefixes(folder))
-    up = folder.up
+    ends = Ends(folder)
+    own: dict[int, dict[str, Peer]] = defaultdict(dict)
+    for peer in ends.all:
+        own[id(peer.router)][peer.name] = peer
     for router in folder.routers:
         if process := router.process("bgp"):
-            peers = {peer.name: peer for peer in peers_of(router, up)}
+            peers = own[id(router)]
             rewrite(
                 process, folder.log, lambda line, router=router, peers=peers: _limit(folder, router, peers, line, count)
             )
-            _cut_passive(folder, router, up)
+            _cut_passive(folder, list(peers.values()), ends)
             seen: set[str] = set()
             cut_lines(process, folder.log, TWICE, lambda line, seen=seen: _is_seen(line, seen))
 
@@ -310,10 +334,12 @@ def _limit(
         peer = peers.get(words[1])
         if peer and not peer.far:
             return ABSENT, []
-        if peer and len(words) > 3 and words[3].isdigit() and _stub_count(peer, count) <= int(words[3]):
-            return STUB_LIMIT, []
-        if len(words) > 3 and words[3].isdigit() and int(words[3]) >= count:
+        limit = int(words[3]) if words[3:] and words[3].isdecimal() else -1
+        if limit >= count:
             return LIMIT, []
+        own = _stub_count(peer) if peer else None
+        if own is not None and limit >= own:
+            return STUB_LIMIT, []
         folder.log.refuse(
             line, "maximum-prefix", f"the folder has {count} prefixes, so the limit can be reached and end the session"
         )
@@ -339,12 +365,11 @@ def _limit(
     return None
 
 
-def _stub_count(peer: Peer, count: int) -> int:
-    """How many prefixes a peer can announce at most: those of its own where it is a stub with this session alone, else
-    all of the folder."""
+def _stub_count(peer: Peer) -> int | None:
+    """How many prefixes a stub with this session alone announces, none where the peer is another router."""
     process = peer.far[0].process("bgp") if peer.far else None
     if process is None or not peer.far[0].is_stub or len(list(peers_of(peer.far[0]))) > 1:
-        return count + 1
+        return None
     return sum(line.words[:1] == ["network"] for line in process.body)
 
 
@@ -356,20 +381,14 @@ def _remote(router: Source, peer: str) -> str:
     return line.words[3] if line and len(line.words) > 3 else ""
 
 
-def _cut_passive(folder: Folder, router: Source, up: Up) -> None:
-    for peer in list(peers_of(router, up)):
+def _cut_passive(folder: Folder, peers: list[Peer], ends: Ends) -> None:
+    for peer in peers:
         line = peer.line("passive")
         if not line:
             continue
-        back = (
-            next(
-                (found for found in peers_of(peer.far[0]) if peer.near and found.address == address_of(peer.near).ip),
-                None,
-            )
-            if peer.far
-            else None
-        )
-        if back and back.line("passive"):
+        back = ends.back(peer)
+        theirs = back.line("passive") if back else None
+        if theirs and all(found.place != theirs.place for found in folder.log.refusals):
             folder.log.refuse(line, "passive-end", "both ends wait for the other one, so there is no session")
         leave = line
         cut_lines(peer.process, folder.log, PASSIVE, lambda found, leave=leave: found is leave)

@@ -2,6 +2,7 @@
 from __future__ import annotations
 
 import dataclasses
+import functools
 import re
 from collections import defaultdict
 from ipaddress import IPv4Interface, IPv4Network
@@ -55,11 +56,6 @@ ONE_AREA = rule(
 )
 NO_EXTERNAL = rule(
     "ospf-no-external", "the line speaks of external routes, and this router brings in none", "RFC 2328 section 12.4.4"
-)
-IDENTIFIER = rule(
-    "frr-router-id",
-    "an identifier names a router to its neighbours, and no other router of the folder has this one",
-    "FRR user guide, zebra, `ip router-id`; RFC 2328 section C.1, RFC 6286",
 )
 REFUSED_TYPE = "ospf-network-type"
 STUB = "ospf-stub"
@@ -120,7 +116,10 @@ def in_area(router: Source, stanza: Stanza) -> bool:
     """Whether an up interface is in the area of an OSPF process of its router."""
     address = address_of(stanza)
     return address is not None and any(
-        covers(line, address) for process in router.with_head("router", "ospf") for line in process.body
+        covers(line, address)
+        for process in router.with_head("router", "ospf")
+        for line in process.body
+        if line.words[:1] == ["network"]
     )
 
 
@@ -129,8 +128,15 @@ def covers(line: Line, address: IPv4Interface) -> bool:
     words = line.words
     if words[:1] != ["network"] or len(words) < 5 or words[3] != "area":
         return False
-    base, wildcard = an_address(words[1]), an_address(words[2])
-    return base is not None and wildcard is not None and not (int(base) ^ int(address.ip)) & ~int(wildcard) & 0xFFFFFFFF
+    found = _range(words[1], words[2])
+    return found is not None and not (found[0] ^ int(address)) & found[1]
+
+
+@functools.lru_cache(maxsize=65536)
+def _range(base: str, wildcard: str) -> tuple[int, int] | None:
+    """An address and the bits that count, as numbers, or none where the words are none."""
+    first_one, open_bits = an_address(base), an_address(wildcard)
+    return None if first_one is None or open_bits is None else (int(first_one), ~int(open_bits) & 0xFFFFFFFF)
 
 
 def is_passive(router: Source, name: str) -> bool:
@@ -174,14 +180,20 @@ def _passive_in_order(process: Stanza, name: str) -> bool:
     return found
 
 
-def network_types(folder: Folder, _options: Options) -> None:
-    """Cuts network types that change no route, and refuses the others."""
+def active_wires(folder: Folder) -> dict[IPv4Network, list[Active]]:
+    """The interfaces that can have adjacencies, by their subnets."""
     wires: dict[IPv4Network, list[Active]] = defaultdict(list)
     for router in folder.routers:
         for stanza in list(router.interfaces):
             address = address_of(stanza)
             if address and in_area(router, stanza) and not is_passive(router, name_of(stanza)):
                 wires[address.network].append(Active(router, stanza, address))
+    return wires
+
+
+def network_types(folder: Folder, _options: Options) -> None:
+    """Cuts network types that change no route, and refuses the others."""
+    wires = active_wires(folder)
     alone = [end for wire in wires.values() if len(wire) == 1 for end in wire]
     _judge_masks(folder, alone)
     _judge_unnumbered(folder, alone)
@@ -335,27 +347,6 @@ def _as_vlan(folder: Folder, router: Source, stanza: Stanza, given: Line | None)
         rewrite(process, folder.log, renamed)
         if is_alone and not is_passive(router, name):
             process.body.append(indented(given or stanza.head, f"passive-interface {name}"))
-
-
-def identifiers(folder: Folder, _options: Options) -> None:
-    """Refuses one router identifier on two routers: their link states would stand for each other, and a session between
-    them would not come up. Cuts FRR's `ip router-id`, which gives the identifier of each process that has none."""
-    seen: dict[str, Source] = {}
-    for router in folder.routers:
-        common = next(router.with_head("ip", "router-id"), None) if router.dialect is Dialect.FRR else None
-        lines = [line for process in router.with_head("router", "ospf") if (line := first(process, "router-id"))]
-        for line in lines or ([common.head] if common else []):
-            word = line.words[-1]
-            other = seen.setdefault(word, router) if len(line.words) > 1 else router
-            if other is not router:
-                folder.log.refuse(
-                    line,
-                    "router-id",
-                    f"{other.name} has this identifier too, and then the two are one router to all others",
-                )
-        if common:
-            folder.log.by(common.head, IDENTIFIER)
-            router.stanzas = [stanza for stanza in router.stanzas if not stanza.starts("ip", "router-id")]
 
 
 def one_area(folder: Folder, _options: Options) -> None:

@@ -117,6 +117,8 @@ def default_routes(folder: Folder, _options: Options) -> None:
 
 
 def _is_default(stanza: Stanza, line: Line) -> bool:
+    if not any(word in line.text for word in ("route", "default", "0.0.0.0")):
+        return False
     words = [word for word in line.words if word not in ("!", "assumed:")]
     given = line.with_text(" ".join(words))
     if words[:2] == ["ip", "route"] and words[2:3] != ["vrf"] and (prefix := static_prefix(given)):
@@ -132,6 +134,8 @@ def _first(places: list[str]) -> str:
 
 def _takes_up(line: Line) -> bool:
     """Whether a line of a process takes up static routes, or could: a decision that dropped one counts too."""
+    if "redistribute" not in line.text:
+        return False
     words = [word for word in line.words if word not in ("!", "assumed:")]
     return words[:2] == ["redistribute", "static"] or (
         words[:2] == ["redistribute", "connected"] and line.words[0] != "!"

@@ -160,7 +160,10 @@ def test_expanded_lists_name_the_communities_of_the_folder(tmp_path: Path, progr
 
 def test_an_address_that_nobody_uses(tmp_path: Path, program: Program) -> None:
     idle = "interface Vlan9\n ip address 192.0.2.1 255.255.255.0\n"
-    texts = (A_BGP.replace("router bgp", idle + "router bgp"), B_BGP.replace("router bgp", idle + "router bgp"))
+    texts = tuple(text.replace("router bgp", idle + "router bgp") for text in (A_BGP, B_BGP))
+    # (without a line both routers would take this address for their identifier)
+    assert refused(report(tmp_path, program, texts)) == {"router-id"}
+    texts = (texts[0] + " bgp router-id 10.1.0.1\n", texts[1] + " bgp router-id 10.2.0.1\n")
     assert not refused(report(tmp_path, program, texts))
     used = (texts[0], texts[1] + " neighbor 192.0.2.9 remote-as 65009\n")
     assert refused(report(tmp_path, program, used)) == {"program"}

@@ -31,14 +31,14 @@ def text_with(text: str, unwrite: Unwrite) -> list[tuple[str, str]]:
     return found
 
 
-def bgp(router: Router) -> Stanza | None:
-    """The BGP process."""
-    return next(router.with_head("router", "bgp"), None)
+def bgp(router: Router) -> Stanza:
+    """The BGP process, which the router has."""
+    return next(router.with_head("router", "bgp"))
 
 
-def ospf(router: Router) -> Stanza | None:
-    """The OSPF process."""
-    return next(router.with_head("router", "ospf"), None)
+def ospf(router: Router) -> Stanza:
+    """The OSPF process, which the router has."""
+    return next(router.with_head("router", "ospf"))
 
 
 def body_text(part: Stanza, change: Callable[[str], str | list[str]]) -> None:
@@ -369,7 +369,7 @@ def secondaries(router: Router) -> None:
     if one and two and [text.text for text in one.body[1:]] == [text.text for text in two.body[1:]]:
         one.body.append(line(f"{two.body[0].text} secondary"))
         router.stanzas.remove(two)
-        if part := ospf(router):
+        for part in router.with_head("router", "ospf"):
             part.body = [inside for inside in part.body if inside.words[-1] != "Vlan2"]
 
 

@@ -132,15 +132,16 @@ def loopbacks_by_bandwidth(router: Router) -> None:
         if name.startswith("Vlan") and cost == 1:
             other.head = line(f"interface Loopback{name[4:]}")
             other.body.append(line(" ip ospf network point-to-point"))
-            body_text(
-                ospf(router),
-                lambda text, name=name: text.replace(
-                    f"passive-interface {name}", f"passive-interface Loopback{name[4:]}"
-                ),
-            )
+            _as_loopback(router, name)
         elif not name.startswith("Loopback"):
             other.body.append(line(f" bandwidth {1_000_000 // cost}"))
     ospf(router).body.append(line(" auto-cost reference-bandwidth 1000"))
+
+
+def _as_loopback(router: Router, name: str) -> None:
+    """The OSPF lines of a Vlan, for the loopback of its number."""
+    old, new = f"passive-interface {name}", f"passive-interface Loopback{name[4:]}"
+    body_text(ospf(router), lambda text: text.replace(old, new))
 
 
 def frr_dummies(router: Router) -> None:
@@ -150,12 +151,7 @@ def frr_dummies(router: Router) -> None:
         name = other.head.words[1]
         if name.startswith("Vlan"):
             other.head = line(f"interface Loopback{name[4:]}")
-            body_text(
-                ospf(router),
-                lambda text, name=name: text.replace(
-                    f"passive-interface {name}", f"passive-interface Loopback{name[4:]}"
-                ),
-            )
+            _as_loopback(router, name)
 
 
 def static_routes(router: Router) -> None:
@@ -171,14 +167,13 @@ def router_ids(router: Router) -> None:
     """FRR's identifier of a router, and dampening."""
     as_frr(router)
     router.stanzas.insert(1, stanza(f"ip router-id 192.0.2.{int(router.name[1:]) + 1}"))
-    part = bgp(router)
-    if part:
+    for part in router.with_head("router", "bgp"):
         part.body.append(line(" bgp dampening 15 750 2000 60"))
 
 
 def idle_addresses(router: Router) -> None:
-    """An address that all routers have and none uses."""
-    router.stanzas.insert(1, stanza("interface Vlan200", "ip address 192.0.2.1 255.255.255.0"))
+    """An address that all routers have and none uses; it is the lowest, so it identifies no router."""
+    router.stanzas.insert(1, stanza("interface Vlan200", "ip address 9.0.2.1 255.255.255.0"))
 
 
 def other_areas(router: Router) -> None:

@@ -33,6 +33,7 @@ def refused_in_sources() -> dict[str, set[str]]:
     found = {}
     for name, scope in TABLES.items():
         table = re.search(rf"^{name}_heads =(.*?)^$", text, re.M | re.S)
+        assert table is not None, name
         found[scope] = {
             head for heads in re.findall(r'rows Refused \(codes "([^"]+)"', table[1]) for head in heads.split(", ")
         }
@@ -47,7 +48,7 @@ def under(scope: str, line: str) -> tuple[str, int]:
 
 def test_kinds_are_those_of_the_source() -> None:
     kinds = re.search(r"pub enum Kind \{\n(.*?)\n\}", SOURCE.read_text("utf-8"), re.S)
-    assert [kind.name for kind in KINDS] == re.findall(r"\w+", kinds[1])
+    assert kinds and [kind.name for kind in KINDS] == re.findall(r"\w+", kinds[1])
 
 
 @pytest.mark.parametrize("kind", KINDS, ids=lambda kind: kind.name)
