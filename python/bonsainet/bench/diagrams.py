@@ -2,10 +2,10 @@
 
 Without a program it builds the diagrams in a model, in several orders, and counts steps, nodes made and the nodes of
 the outcome: where the outcome itself grows by a factor with each list, no order helps. With --program it asks that
-program for `compress` over a network of two routers whose one route map matches the lists, and tells seconds, memory
+program for `compress` over a network of two routers whose one route map matches the lists, and measures seconds, memory
 and status, under a limit of address space if one is given.
 
-A text is LISTSxLINESxCOMMUNITIES, as 4x32x128: lines take their communities by chance among so many, the same ones each
+A text is LISTSxLINESxCOMMUNITIES, as 4x32x128: lines take their communities at random from so many, the same ones each
 time. With 0 communities no two lines name the same one.
 """
 from __future__ import annotations
@@ -22,6 +22,7 @@ import tempfile
 import time
 from collections.abc import Callable, Iterator
 from pathlib import Path
+from typing import Any
 
 from bonsainet.bench.decisions import FALSE, TRUE, Store, TooMany
 from bonsainet.bench.paper import TIME
@@ -260,7 +261,7 @@ ORDERS: dict[str, Callable[[Store, list[Matched]], int]] = {
 
 def built(
     order: Callable[[Store, list[Matched]], int], lists: list[Matched], remembered: int, limit: int
-) -> tuple[object, ...]:
+) -> tuple[Any, ...]:
     """Steps, nodes made, nodes of the outcome and seconds; no outcome where the limit is passed."""
     store = Store(remembered, limit)
     since = time.process_time()
@@ -308,10 +309,10 @@ def network(lists: list[Matched]) -> str:
     return "".join(f"{line}\n" for line in lines())
 
 
-def asked(program: Path, text: str, kib: int | None, seconds: int) -> tuple[object, ...]:
+def asked(program: Path, text: str, kib: int | None, seconds: int) -> tuple[Any, ...]:
     """User seconds, MiB and how the program ended.
 
-    Memory is told by the program time, since a child that Python starts counts Python's own memory as its peak. The
+    Memory is measured by the program time, since a child that Python starts counts Python's own memory as its peak. The
     limit of seconds is a soft one, so that it ends the program by a signal of its own, and not by the one with which a
     kernel that has no memory left ends it.
     """
@@ -321,7 +322,7 @@ def asked(program: Path, text: str, kib: int | None, seconds: int) -> tuple[obje
     ) as file, tempfile.TemporaryFile() as told, tempfile.NamedTemporaryFile() as most:
         file.write(text)
         file.flush()
-        words = [
+        words: list[str | Path] = [
             TIME,
             "-o",
             most.name,

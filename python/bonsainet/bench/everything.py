@@ -21,7 +21,8 @@ def words() -> argparse.ArgumentParser:
     """The words of the command line."""
     made = parser(
         "all",
-        "Measures two states of the program: `bench/turns --keep`, the same with --memory, `bench/profile --keep`, and `bench/paper --keep` of the state after;"
+        "Measures two states of the program: `bench/turns --keep`, the same with --memory, `bench/profile --keep`, and of the state after `bench/paper --keep` and"
+        " `bench/turns --questions --keep`;"
         " then `bench/plot` writes the plots and the tables of the pages. A run that ended early goes on where it was. Takes about a quarter of an hour, and longer where"
         " many rows of the states differ: these get more turns.",
     )
@@ -72,5 +73,6 @@ def steps(arguments: argparse.Namespace) -> list[Step]:
         (turns, [*both, *anew, "--memory", "--runs", "3"]),
         (profile, both),
         (paper, ["--keep", "--program", str(programs[1]), "--named", names[1]]),
+        (turns, [str(programs[1]), "--questions", "--keep", "--runs", str(arguments.runs), "--named", names[1]]),
         (plot, []),
     ]

@@ -1,6 +1,6 @@
 """The rows of `bench/turns` as they are kept in bench/measured, one file for each measure.
 
-The first line tells which programs were measured on which machine. Rows are added while they are measured, so that a
+The first line says which programs were measured on which machine. Rows are added while they are measured, so that a
 run which ends early can go on.
 """
 from __future__ import annotations
@@ -11,6 +11,7 @@ import io
 import sys
 from collections.abc import Callable
 from pathlib import Path
+from typing import IO, Any
 
 from bonsainet.bench.measures import MEMORY, SECONDS, Measure
 from bonsainet.cli.command_line import write_output
@@ -109,11 +110,12 @@ class Table:
         keys = {name: getattr(row, name) for name in KEYS} | {"load": f"{row.load:.1f}"}
         return keys | dict(zip(FIGURES[self.measure.name], figures, strict=True))
 
-    def _writer(self, file: object) -> csv.DictWriter:
+    def _writer(self, file: IO[str]) -> csv.DictWriter:
         return csv.DictWriter(file, [*KEYS, *FIGURES[self.measure.name]], lineterminator="\n")
 
 
 def _row(found: dict[str, str], measure: Measure) -> Row:
     figures = [float(found[name]) for name in FIGURES[measure.name]]
     half = len(figures) // 2
-    return Row(*(KINDS.get(name, int)(found[name]) for name in KEYS), (tuple(figures[:half]), tuple(figures[half:])))
+    keys: dict[str, Any] = {name: KINDS.get(name, int)(found[name]) for name in KEYS}
+    return Row(**keys, least=(tuple(figures[:half]), tuple(figures[half:])))

@@ -110,7 +110,7 @@ def wanted(found: list[tuple[tuple[float, ...], ...]], runs: int, measure: Measu
     """How many turns there are to be, after those that are found.
 
     Short runs get more turns, long ones fewer. There are more until the last program is faster by a tenth, since chance
-    only adds: the least figures of both come down. So neither a difference by chance nor one that chance hides is taken
+    only adds: the least figures of both come down. So neither a random difference nor one that noise hides is taken
     for granted.
     """
     if not found or measure.name != SECONDS.name:

@@ -1,7 +1,7 @@
 """bench/paper: fat trees, rings and full meshes, their sizes before and after, and the time for each class.
 
 These are the synthetic networks of the evaluation in Beckett, Gupta, Mahajan and Walker, Control Plane Compression,
-SIGCOMM 2018, as remembered: the paper was not at hand, so none of its figures stands here. The groups that a shape must
+SIGCOMM 2018, from memory: the paper was not at hand, so none of its figures stands here. The groups that a shape must
 have are counted by hand.
 """
 from __future__ import annotations
@@ -15,6 +15,7 @@ import sys
 import tempfile
 from collections.abc import Callable, Iterable
 from pathlib import Path
+from typing import Any
 
 from bonsainet.nets import synthetic
 from bonsainet.bench.states import in_ascii, kind, program_at
@@ -33,7 +34,7 @@ class Family:
     counted by hand.
 
     Seen from an edge router of a fat tree there are six sorts: it, the other edge routers and the aggregation of its
-    pod, the core, and both of the other pods. In a ring routers are told apart by their distance, in a full mesh the
+    pod, the core, and both of the other pods. In a ring routers are distinguished by their distance, in a full mesh the
     originator from the others.
     """
 
@@ -125,7 +126,7 @@ def measured(program: Path, family: Family, size: int) -> Row:
         classes, seconds, memory = asked(program, "classes", file)
         count = classes.count("\n")
         first = [asked(program, "compress", file, str(number)) for number in spread(count)]
-        # summary reads once for all classes, so it tells the time of a class alone
+        # summary reads once for all classes, so it gives the time of a class alone
         sizes, all_seconds, most = asked(program, "summary", file)
     told = sizes_of(sizes)
     if len({(found.groups, found.links_after) for found in told}) != 1:
@@ -147,7 +148,7 @@ def spread(count: int) -> list[int]:
 def asked(program: Path, *words: str) -> tuple[str, float, float]:
     """The output of a command, its seconds of user and system time, and its peak memory in MiB.
 
-    Memory is told by the program time, since a child that Python starts counts Python's own memory as its peak.
+    Memory is measured by the program time, since a child that Python starts counts Python's own memory as its peak.
     """
     with tempfile.TemporaryFile() as out, tempfile.NamedTemporaryFile() as told:
         started = subprocess.Popen(
@@ -156,6 +157,7 @@ def asked(program: Path, *words: str) -> tuple[str, float, float]:
             stdout=out,
             stderr=subprocess.PIPE,
         )
+        assert started.stderr is not None, "it is a pipe"
         err = started.stderr.read()
         _, status, used = os.wait4(started.pid, 0)
         started.returncode = os.waitstatus_to_exitcode(status)
@@ -183,7 +185,7 @@ def table(rows: Iterable[Row]) -> str:
 
 
 def keep(rows: list[Row], told: str) -> None:
-    """Writes the measurements; the first line tells how they were made."""
+    """Writes the measurements; the first line says how they were made."""
     with open(KEPT, "w", newline="", encoding="ascii") as file:
         file.write(f"# {told}\n")
         out = csv.DictWriter(file, [field.name for field in dataclasses.fields(Row)], lineterminator="\n")
@@ -191,9 +193,12 @@ def keep(rows: list[Row], told: str) -> None:
         out.writerows(dataclasses.asdict(row) for row in rows)
 
 
+KINDS: dict[str, Any] = {"str": str, "int": int, "float": float}
+
+
 def read(place: Path) -> list[Row]:
     """The kept measurements."""
     with open(place, newline="", encoding="ascii") as file:
         found = csv.DictReader(line for line in file if not line.startswith("#"))
-        kinds = {field.name: {"str": str, "int": int, "float": float}[field.type] for field in dataclasses.fields(Row)}
+        kinds = {field.name: KINDS[str(field.type)] for field in dataclasses.fields(Row)}
         return [Row(**{name: kinds[name](value) for name, value in row.items()}) for row in found]

@@ -4,9 +4,10 @@ from __future__ import annotations
 
 import argparse
 import re
+from collections.abc import Callable
 from pathlib import Path
 
-from bonsainet.bench import profile
+from bonsainet.bench import profile, questions
 from bonsainet.bench.kept import Table
 from bonsainet.bench.measures import MEMORY, SECONDS
 from bonsainet.bench.paper import KEPT, Row, read, table
@@ -72,6 +73,8 @@ def texts() -> dict[str, str]:
         kept = Table.read(measure)
         if kept.rows:
             made[measure.name] = text(kept)
+    if questions.KEPT.is_file():
+        made["questions"] = questions.questions_text(*questions.read())
     if profile.KEPT.is_file():
         made["profile"] = profile.profile_text()
     return made
@@ -115,7 +118,11 @@ def _memory(row: Row) -> tuple[tuple[float, bool], ...]:
     return ((row.memory, True),)
 
 
-def _draw(place: Path, unit: str, title: str, rows: list[Row], values: object) -> None:
+Values = Callable[[Row], tuple[tuple[float, bool], ...]]
+"""The figures of a row, each with whether its mark is filled."""
+
+
+def _draw(place: Path, unit: str, title: str, rows: list[Row], values: Values) -> None:
     import matplotlib.pyplot as plt
 
     figure, axes = plt.subplots(figsize=(6.4, 4))

@@ -101,7 +101,7 @@ def sampled(program: Path, asked: list[str], samples: Path) -> Shares:
     started = time.monotonic()
     output(program, asked)
     runs = max(1, round(SECONDS / (time.monotonic() - started)))
-    # (a name of its own tells the program's samples from those of the shell)
+    # (a name of its own distinguishes the program's samples from those of the shell)
     called = samples.with_name("measured")
     called.unlink(missing_ok=True)
     called.symlink_to(program)
@@ -181,7 +181,7 @@ def _percent(share: str) -> str:
 
 
 def keep(rows: list[dict[str, str]], told: str) -> None:
-    """Writes the shares; the first line tells which programs were sampled."""
+    """Writes the shares; the first line says which programs were sampled."""
     with open(KEPT, "w", newline="", encoding="ascii") as file:
         file.write(f"# {told}\n")
         out = csv.DictWriter(file, COLUMNS, lineterminator="\n")

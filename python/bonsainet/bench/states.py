@@ -1,4 +1,4 @@
-"""Which programs are measured, and on which machine: what the first line of a kept file tells."""
+"""Which programs are measured, and on which machine: what the first line of a kept file says."""
 from __future__ import annotations
 
 import argparse
@@ -57,7 +57,7 @@ def told_of(programs: list[Path], names: list[str]) -> str:
 
 
 def in_ascii(told: str) -> str:
-    """A first line as a kept file can have it: other letters, as names have them, are told by their numbers."""
+    """A first line as a kept file can have it: other letters, as names have them, are written by their numbers."""
     return one_line(told).encode("ascii", "backslashreplace").decode("ascii")
 
 

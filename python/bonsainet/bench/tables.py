@@ -4,6 +4,7 @@ from __future__ import annotations
 
 import math
 from collections.abc import Callable, Iterator
+from typing import Protocol, TypeVar
 
 from bonsainet.bench.kept import Row, Table
 from bonsainet.bench.measures import SECONDS, SLOWER
@@ -86,7 +87,18 @@ def series(rows: list[Row]) -> Iterator[list[Row]]:
         yield sorted(of_command, key=lambda row: row.size)
 
 
-def growth(last: Row, before: Row, figure: Callable[[Row], float]) -> float:
+class Linked(Protocol):
+    """A row of a network."""
+
+    @property
+    def links(self) -> int:
+        """How many links the network has."""
+
+
+Some = TypeVar("Some", bound=Linked)
+
+
+def growth(last: Some, before: Some, figure: Callable[[Some], float]) -> float:
     """By which factor a figure grows while the links of the network double, as two sizes tell it."""
     return (figure(last) / figure(before)) ** (1 / math.log2(last.links / before.links))
 

@@ -2,7 +2,8 @@
 turn, the least of several runs.
 
 So two states of the program are compared in one run of the machine. With --keep the rows go to a file of
-bench/measured, and rows that are kept there are not measured again.
+bench/measured, and rows that are kept there are not measured again. With --questions the other two programs are
+measured, which are found beside the one that is named (`questions.py`).
 """
 from __future__ import annotations
 
@@ -16,6 +17,7 @@ import tempfile
 from collections.abc import Iterable, Iterator
 from pathlib import Path
 
+from bonsainet.bench import questions
 from bonsainet.bench.inputs import READ_BY, ROUNDS, output, second_files
 from bonsainet.bench.kept import Row, Table
 from bonsainet.bench.measures import INSTRUCTIONS, MEMORY, SECONDS, Measure, in_turn
@@ -91,6 +93,12 @@ def words() -> argparse.ArgumentParser:
     made.add_argument(
         "--anew", action="store_true", help="with --keep: measure again what is kept of these commands and shapes"
     )
+    made.add_argument(
+        "--questions",
+        action="store_true",
+        help="measure `bonsai-ask` and `bonsai-all` instead, which are found beside PROGRAM, against `groups` of one class;"
+        " takes one program, and with --keep one name",
+    )
     add_named(made)
     return made
 
@@ -102,6 +110,9 @@ def main(argv: list[str] | None = None) -> None:
 
 def work(arguments: argparse.Namespace) -> None:
     """Measures and prints, row by row."""
+    if arguments.questions:
+        measure_questions(arguments)
+        return
     if arguments.anew and not arguments.keep:
         raise Refused("--anew is for what is kept: it needs --keep")
     programs = [program_at(program) for program in arguments.programs]
@@ -131,6 +142,21 @@ def work(arguments: argparse.Namespace) -> None:
         before[row.shape, row.command] = row.least[-1][0]
         if table:
             table.append(row)
+
+
+def measure_questions(arguments: argparse.Namespace) -> None:
+    """Measures the other programs of one state, all rows anew."""
+    others = (
+        arguments.command,
+        arguments.shape,
+        arguments.sizes,
+        arguments.memory,
+        arguments.instructions,
+        arguments.anew,
+    )
+    if any(others) or len(arguments.programs) != 1:
+        raise Refused("--questions stands with one program, --runs, --keep and --named alone")
+    questions.work(program_at(arguments.programs[0]), arguments.runs, arguments.keep, arguments.named)
 
 
 def numbers(text: str) -> tuple[int, ...]:

@@ -1,4 +1,4 @@
-"""The text of a fat tree of size K, an even number: the network of which `trial K` tells the summary
+"""The text of a fat tree of size K, an even number: the network of which `trial K` writes the summary
 (`crates/fat_gen/specs/`)."""
 from __future__ import annotations
 
@@ -39,8 +39,8 @@ def fat_tree_text(size: int) -> str:
         ports[high].append((even + 1, even, low))
     lines: list[str] = []
     for name in names:
-        pod, _, place = name.removeprefix("edge").partition("-")
-        origin = f"10.{pod}.{place}" if name.startswith("edge") else None
+        pod, _, position = name.removeprefix("edge").partition("-")
+        origin = f"10.{pod}.{position}" if name.startswith("edge") else None
         lines.append(f"hostname {name}")
         if origin:
             lines += ["interface Vlan1", f" ip address {origin}.1 255.255.255.0"]

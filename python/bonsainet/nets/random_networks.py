@@ -18,7 +18,9 @@ def random_text(seed: int) -> str:
     spare = random.Random(f"spare {seed}")
     count = chance.randint(4, 8)
     pairs = [(chance.randrange(place), place) for place in range(1, count)]
-    pairs += [tuple(sorted(chance.sample(range(count), 2))) for _ in range(chance.randint(1, count))]
+    for _ in range(chance.randint(1, count)):
+        low, high = sorted(chance.sample(range(count), 2))
+        pairs.append((low, high))
     origins = chance.sample(range(count), chance.randint(1, 2))
     write = _bgp if seed % 3 else _ospf
     return "".join(f"{line}\n" for place in range(count) for line in write(chance, spare, place, pairs, origins))
@@ -42,7 +44,9 @@ def _is_beyond_the_tree(number: int, pairs: list[tuple[int, int]]) -> bool:
 def _ospf(
     chance: random.Random, spare: random.Random, place: int, pairs: list[tuple[int, int]], origins: list[int]
 ) -> list[str]:
-    lines, passive, active = [f"hostname r{place}"], [], []
+    lines = [f"hostname r{place}"]
+    passive: list[str] = []
+    active: list[str] = []
     if place in origins:
         lines += [
             "interface Vlan1",

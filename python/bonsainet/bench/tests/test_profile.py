@@ -78,12 +78,20 @@ def test_words_are_refused_before_the_first_sample(tmp_path, monkeypatch) -> Non
 def test_the_file_of_a_command_is_its_own(monkeypatch) -> None:
     made = {"order": Path("order"), "labels": Path("labels")}
     monkeypatch.setattr(profile, "second_files", lambda *_more: made)
-    monkeypatch.setattr(profile, "sampled", lambda _program, asked, _samples: asked)
-    assert [asked[2:] for asked in profile.profiled([Path("a")], "check", "ospf-ring", 8)] == [["1", "labels"]]
+    seen: list[list[str]] = []
+
+    def sampled(_program: Path, asked: list[str], _samples: Path) -> dict[str, float]:
+        seen.append(asked[2:])
+        return {}
+
+    monkeypatch.setattr(profile, "sampled", sampled)
+    profile.profiled([Path("a")], "check", "ospf-ring", 8)
+    assert seen == [["1", "labels"]]
     del made["labels"]
     with pytest.raises(Refused, match="do not come to rest"):
         profile.profiled([Path("a")], "check", "ospf-ring", 8)
-    assert [asked[2:] for asked in profile.profiled([Path("a")], "groups", "ospf-ring", 8)] == [["1"]]
+    profile.profiled([Path("a")], "groups", "ospf-ring", 8)
+    assert seen[1:] == [["1"]]
 
 
 def test_the_load_is_kept(tmp_path, monkeypatch, capsys) -> None:

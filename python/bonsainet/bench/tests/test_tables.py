@@ -1,4 +1,6 @@
 """The tables of the page say what is slower and what grows fast."""
+from pathlib import Path
+
 import pytest
 
 from bonsainet.bench.kept import Row, Table
@@ -14,7 +16,7 @@ def row(size: int, command: str, before: float, after: float, shape: str = "ospf
 
 
 def table(*rows: Row) -> Table:
-    return Table(SECONDS, None, "before: old; after: new", list(rows))
+    return Table(SECONDS, Path("unused"), "before: old; after: new", list(rows))
 
 
 def test_the_largest_network_is_shown_with_its_growth() -> None:
@@ -90,7 +92,7 @@ def test_memory_of_both_states() -> None:
         Row("bgp-ring", 64, command, 64, 64, 1, 1000, 3, 1.5, ((before,), (after,)))
         for command, before, after in (("classes", 20, 10.4), ("groups", 30, 31))
     ]
-    text = memory_text(Table(MEMORY, None, "told", made))
+    text = memory_text(Table(MEMORY, Path("unused"), "told", made))
     assert (
         "| bgp-ring | 64 | 20, 10 | 30, 31 |" in text
         and "The most is now 31 MiB. Made with: told, at a load of 1.5 to 1.5." in text

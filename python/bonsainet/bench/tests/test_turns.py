@@ -1,5 +1,7 @@
 """Programs are measured in turn over networks of each shape, and rows are kept."""
+import dataclasses
 from pathlib import Path
+from typing import Any
 
 import pytest
 
@@ -27,8 +29,8 @@ def folder(tmp_path, monkeypatch):
     return tmp_path
 
 
-def row_of(command: str = "groups", before: float = 0.2, after: float = 0.1, **more: object) -> Row:
-    told = {
+def row_of(command: str = "groups", before: float = 0.2, after: float = 0.1, **more: Any) -> Row:
+    told: dict[str, Any] = {
         "shape": "ospf-ring",
         "size": 2048,
         "routers": 2048,
@@ -168,7 +170,7 @@ def test_memory_in_the_place_of_time(programs) -> None:
 def test_rows_are_kept_as_they_are(folder) -> None:
     for measure, least_figures in ((SECONDS, ((0.25, 0.125), (0.5, 0.25))), (MEMORY, ((20.5,), (10.5,)))):
         rows = [row_of(), row_of("certify")]
-        rows = [Row(**{**vars(row), "least": least_figures}) for row in rows]
+        rows = [dataclasses.replace(row, least=least_figures) for row in rows]
         table = Table.opened(measure, "two programs")
         for row in rows:
             table.append(row)
@@ -235,7 +237,8 @@ def test_what_is_kept_is_not_measured_again(folder, programs, capsys) -> None:
         "--command",
         "groups",
     ]
-    for more, lines in (([], 3), ([], 2), (["--command", "classes"], 3), (["--anew"], 3)):
+    tries: list[tuple[list[str], int]] = [([], 3), ([], 2), (["--command", "classes"], 3), (["--anew"], 3)]
+    for more, lines in tries:
         turns.work(turns.words().parse_args([*asked, *more]))
         assert len(capsys.readouterr().out.splitlines()) == lines
     told = Table.read(SECONDS).told
@@ -268,7 +271,14 @@ def test_an_unproved_build_is_told(tmp_path) -> None:
 
 def test_all_measurements_are_made_of_two_states(programs) -> None:
     found = everything.steps(everything.words().parse_args([*map(str, programs), "--named", "old,new"]))
-    assert [tool.__name__.rpartition(".")[2] for tool, _ in found] == ["turns", "turns", "profile", "paper", "plot"]
+    assert [tool.__name__.rpartition(".")[2] for tool, _ in found] == [
+        "turns",
+        "turns",
+        "profile",
+        "paper",
+        "turns",
+        "plot",
+    ]
     for tool, asked in found:
         assert tool.words().parse_args(asked)
 
