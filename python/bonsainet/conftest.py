@@ -5,6 +5,7 @@ Hypothesis tries the same examples each time, however slow the machine is.
 """
 import contextlib
 import signal
+from typing import Any
 
 import pytest
 
@@ -12,11 +13,13 @@ from bonsainet.cli.command_line import Refused
 from bonsainet.ask.native import native
 from bonsainet.ask.program import Program
 
-for number, handler in (
+DEFAULTS: tuple[tuple[signal.Signals, Any], ...] = (
     (signal.SIGINT, signal.default_int_handler),
     (signal.SIGHUP, signal.SIG_DFL),
     (signal.SIGTERM, signal.SIG_DFL),
-):
+)
+
+for number, handler in DEFAULTS:
     if signal.getsignal(number) == signal.SIG_IGN:
         signal.signal(number, handler)
 

@@ -15,10 +15,11 @@ import os
 import subprocess
 import sys
 from collections.abc import Callable, Iterable, Iterator
+from typing import Any
 
 from bonsainet.ask.program import TOP, NotAnswered
 from bonsainet.ask.where import NoProgram
-from bonsainet.cli import streams
+from bonsainet.cli import progress, streams
 from bonsainet.cli.manual import Manual
 
 
@@ -37,6 +38,11 @@ class Refused(Exception):
 
 def version() -> str:
     """The version of the tools: that of the file VERSION, and in a repository the commit by git."""
+    if not (TOP / "VERSION").is_file():
+        # (by pip the package is installed without the file)
+        import importlib.metadata
+
+        return importlib.metadata.version("bonsainet")
     number = (TOP / "VERSION").read_text("utf-8").strip()
     if not (TOP / ".git").exists():
         return number
@@ -49,10 +55,8 @@ def version() -> str:
     return f"{number} ({told.stdout.strip()})" if told.stdout.strip() else number
 
 
-def parser(
-    name: str, purpose: str, statuses: tuple[tuple[str, str], ...] = (), **more: object
-) -> argparse.ArgumentParser:
-    """A parser with `--version`, whose help tells the purpose, and with `--manual`, which writes the tool's page of the
+def parser(name: str, purpose: str, statuses: tuple[tuple[str, str], ...] = (), **more: Any) -> argparse.ArgumentParser:
+    """A parser with `--version`, whose help says the purpose, and with `--manual`, which writes the tool's page of the
     manual. `statuses` are those that the tool has besides the common ones."""
     made = argparse.ArgumentParser(
         prog=name, description=purpose, formatter_class=argparse.RawDescriptionHelpFormatter, **more
@@ -134,6 +138,8 @@ def not_written(name: str | os.PathLike[str], fault: OSError) -> OSError:
 def shown(text: str) -> str:
     """The text as a person can read it: a byte that is no letter, as names of files and lines of texts can have it, is
     `\\xff`."""
+    if text.isascii():
+        return text
     return "".join(f"\\x{ord(letter) - 0xDC00:02x}" if "\udc80" <= letter <= "\udcff" else letter for letter in text)
 
 
@@ -149,8 +155,11 @@ codecs.register_error(ESCAPED, _escaped)
 
 
 def printable(text: str) -> str:
-    """The text with all that a terminal would obey, and all that is not to be seen, told by its number."""
-    return "".join(it if it.isprintable() else it.encode("unicode_escape").decode() for it in shown(text))
+    """The text, with the number of each character that a terminal would obey or that cannot be seen in its place."""
+    told = shown(text)
+    if told.isprintable():
+        return told
+    return "".join(it if it.isprintable() else it.encode("unicode_escape").decode() for it in told)
 
 
 def one_line(text: str) -> str:
@@ -162,6 +171,7 @@ def run(name: str, work: Callable[[], int | None]) -> int:
     """Runs a tool's work and turns each failure into one line on standard error and a status."""
     streams.hold()
     streams.end_by_signals()
+    progress.begin()
     for stream in (sys.stdout, sys.stderr):
         if isinstance(stream, io.TextIOWrapper):
             stream.reconfigure(errors=ESCAPED)

@@ -17,13 +17,14 @@ STATUSES = (
 
 def manual(parser: argparse.ArgumentParser) -> str:
     """The page in the language of man."""
-    first, _, _ = parser.description.partition(".")
+    purpose = parser.description or ""
+    first, _, _ = purpose.partition(".")
     lines = [
         f'.TH {parser.prog.upper()} 1 "" "Bonsai" "Bonsai manual"',
         ".SH NAME",
         f"{_plain(parser.prog)} \\- {_plain(_small(first))}",
     ]
-    lines += [".SH SYNOPSIS", *_synopsis(parser), ".SH DESCRIPTION", *_paragraphs(parser.description)]
+    lines += [".SH SYNOPSIS", *_synopsis(parser), ".SH DESCRIPTION", *_paragraphs(purpose)]
     lines += [
         ".SH OPTIONS",
         *(line for action in parser._actions if action.help != argparse.SUPPRESS for line in _option(action)),

@@ -80,6 +80,11 @@ def bonsai_refusals(words: list[str] | None = None) -> int:
     return start("bonsai-refusals", "bonsainet.refusals.tool:main", words)
 
 
+def bonsai_why(words: list[str] | None = None) -> int:
+    """Runs `tools/bonsai-why`."""
+    return start("bonsai-why", "bonsainet.why.tool:main", words)
+
+
 def corpus(words: list[str] | None = None) -> int:
     """Runs `dev/corpus`."""
     return start("corpus", "bonsainet.corpus.tool:main", words)
@@ -118,6 +123,16 @@ def round_trip(words: list[str] | None = None) -> int:
 def commands(words: list[str] | None = None) -> int:
     """Runs the part of `dev/manual` that goes by the launcher."""
     return start("commands", "bonsainet.repo.commands:main", words)
+
+
+def reading_list(words: list[str] | None = None) -> int:
+    """Runs `dev/reading-list`."""
+    return start("reading-list", "bonsainet.repo.reading_list:main", words)
+
+
+def fast_build(words: list[str] | None = None) -> int:
+    """Runs `dev/fast-build`."""
+    return start("fast-build", "bonsainet.repo.fast_build:main", words)
 
 
 def sentences(words: list[str] | None = None) -> int:

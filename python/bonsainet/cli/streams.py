@@ -8,6 +8,9 @@ import shutil
 import signal
 import sys
 
+# The numbers of the standard streams that were closed.
+held: set[int] = set()
+
 
 def hold() -> None:
     """Takes the places of standard streams that are closed, so that no file of a tool, or of what it starts, gets one.
@@ -20,6 +23,7 @@ def hold() -> None:
         except OSError:
             # (a file gets the least number that is free)
             os.set_inheritable(os.open(os.devnull, way), True)
+            held.add(number)
     if sys.stdout is None:
         sys.stdout = io.TextIOWrapper(io.FileIO(1, "w", closefd=False), encoding="utf-8")
     if sys.stderr is None:
@@ -34,6 +38,18 @@ def standard_input(most: int) -> bytes:
         return sys.stdin.buffer.read(most)
     except OSError as fault:
         raise OSError(fault.errno, fault.strerror, "standard input") from None
+
+
+def takes(number: int, data: bytes) -> bool:
+    """Whether standard output or error, by its number, takes all of some bytes, which are written without a buffer."""
+    if number in held:
+        return False
+    try:
+        while data:
+            data = data[os.write(number, data) :]
+    except OSError:
+        return False
+    return True
 
 
 def ending_with_this() -> list[str]:

@@ -10,7 +10,7 @@ NAMES = {
     "ipv6-peer": "IPv4 over IPv6 neighbours",
     "vrf-leak": "routes between tables",
     "labeled-unicast": "labelled routes",
-    "ospf-cost": "speed of a link not told",
+    "ospf-cost": "speed of a link not known",
     "secondary": "overlapping addresses on one interface",
     "redistribute": "redistribution that sets something",
     "network": "`network` line over an overlapping prefix or a route that can fail",

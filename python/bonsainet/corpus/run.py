@@ -21,7 +21,7 @@ from ipaddress import IPv4Interface
 from pathlib import Path
 
 from bonsainet.cli.command_line import Refused
-from bonsainet.importing.folder import Folder, Source
+from bonsainet.importing.folder import Folder, Source, first
 from bonsainet.importing.read import read_folder
 from bonsainet.ask.program import Program
 from bonsainet.configs.text import text_of
@@ -30,6 +30,7 @@ DAEMONS = ("zebra", "bgpd", "ospfd", "staticd")
 PLACE = Path("/usr/lib/frr")
 # FRR's JSON has names of its own for well-known communities.
 NAMES = {"noExport": "no-export", "noAdvertise": "no-advertise", "localAs": "local-AS"}
+DEFAULT = 100
 OWN = re.compile(r"\b42000000\d\d\b")
 
 
@@ -47,7 +48,7 @@ def run_on_frr(folder: Path, given: Folder, program: Program, seconds: int, shar
     inside the area, with its label at rest in the text that was imported from it, with the device's preferences and
     well-known communities put back.
 
-    `shared` is the AS number that `--own-as` parted, put back into the paths of the labels. Refused without root or
+    `shared` is the AS number that `--own-as` separated, put back into the paths of the labels. Refused without root or
     FRR.
     """
     routers = read_folder(str(folder)).routers
@@ -168,7 +169,12 @@ def _compare(routers: list[Source], room: Path, given: Folder, program: Program,
     names = {router.name for router in given.routers}
     routers = [router for router in routers if router.name in names]
     is_bgp = any(router.process("bgp") for router in given.routers)
-    held = {router.name: (_held if is_bgp else _costs)(room / router.name, prefixes) for router in routers}
+    held = {
+        router.name: (
+            _held(room / router.name, prefixes, _preference(router)) if is_bgp else _costs(room / router.name, prefixes)
+        )
+        for router in routers
+    }
     for one in program.classes(text):
         lines = program.done("run", "F", str(one.number), "S", texts={"F": text, "S": "*\n" * 20}).splitlines()[1:]
         labels = {line.split()[0]: " ".join(line.split()[1:]) for line in lines}
@@ -184,7 +190,14 @@ def _compare(routers: list[Source], room: Path, given: Folder, program: Program,
     return found
 
 
-def _held(room: Path, prefixes: list[str]) -> dict[str, str]:
+def _preference(router: Source) -> int:
+    """The preference that a router gives to routes which come without one."""
+    process = router.process("bgp")
+    line = first(process, "bgp", "default", "local-preference") if process else None
+    return int(line.words[3]) if line and line.words[3:] and line.words[3].isdecimal() else DEFAULT
+
+
+def _held(room: Path, prefixes: list[str], preference: int) -> dict[str, str]:
     """The best route of a router for each prefix, written as a label."""
     words = [word for prefix in prefixes for word in ("-c", f"show bgp ipv4 unicast {prefix} json")]
     told = subprocess.run(
@@ -194,7 +207,7 @@ def _held(room: Path, prefixes: list[str]) -> dict[str, str]:
     for prefix in prefixes:
         answer, end = json.JSONDecoder().raw_decode(told) if told.startswith("{") else ({}, 0)
         told = told[end:].lstrip()
-        found[prefix] = _label(answer.get("paths", []))
+        found[prefix] = _label(answer.get("paths", []), preference)
     return found
 
 
@@ -213,14 +226,14 @@ def _costs(room: Path, prefixes: list[str]) -> dict[str, str]:
     }
 
 
-def _label(paths: list[dict]) -> str:
-    """The best of some paths as a label."""
+def _label(paths: list[dict], preference: int) -> str:
+    """The best of some paths as a label. FRR shows no preference where none came, and takes the router's own."""
     best = next((path for path in paths if path.get("bestpath", {}).get("overall")), None)
     if best is None:
         return "none"
     path = best.get("aspath", {}).get("string", "").replace("Local", "")
     communities = " ".join(NAMES.get(word, word) for word in best.get("community", {}).get("list", []))
-    return " ".join(f"bgp {best.get('locPrf', 100)} path {path} comms {communities}".split())
+    return " ".join(f"bgp {best.get('locPrf', preference)} path {path} comms {communities}".split())
 
 
 def _of_device(label: str, preferences: dict[int, int], held: dict[str, str]) -> str:
@@ -243,7 +256,7 @@ def _order(word: str) -> tuple[int, int]:
 
 
 def _is_own(label: str) -> bool:
-    """Whether a label is that of a router's own route, whose preference and communities are told where it leaves."""
+    """Whether a label is that of a router's own route, whose preference and communities are known where it leaves."""
     words = label.split()
     return words[0] == "bgp" and words[3:4] == ["comms"]
 

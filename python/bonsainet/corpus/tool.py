@@ -34,7 +34,7 @@ EXPLAINED = {
     "ldp_oc_topo1": "the files name an interface `r2-eths2` that the test's router does not have, so in the test there is no link 10.0.3.0/24 between r2 and r3",
     "ldp_oc_acl_topo1": "the same, by the same file",
 }
-VETH = 'bandwidth "*eth*" 10000000 because "the tests join routers by veth pairs, for which Linux tells 10 Gbit/s"\n'
+VETH = 'bandwidth "*eth*" 10000000 because "the tests join routers by veth pairs, for which Linux reports 10 Gbit/s"\n'
 AT_ONCE = 2
 
 
@@ -87,7 +87,7 @@ def outcome(folder: Path, program: Program) -> Outcome:
         )
     classes = program.classes(text_of(report.folder.routers))
     if any("bandwidth of" in found.text for found in log.assumptions):
-        how += ", speed of links told"
+        how += ", speed of links decided"
     if any(found.reason == FRR_LOOPBACK.reason for found in log.assumptions):
         how += ", loopbacks at cost 1 for 0"
     return Outcome(
@@ -189,7 +189,7 @@ def main(argv: list[str] | None = None) -> int:
 
 
 def _run(folder: Path, program: Program, seconds: int) -> str:
-    """Runs a network on FRR, and tells how many labels are alike."""
+    """Runs a network on FRR, and counts the labels that are alike."""
     report = _import(folder, program, Options(own_as=True))
     if any(found.kind == "OtherArea" for found in report.folder.log.refusals):
         report, _ = _of_one_area(folder, program, report)

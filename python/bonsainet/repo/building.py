@@ -322,7 +322,8 @@ def carry_out(asked: argparse.Namespace) -> None:
         TOP, programs, packing.version_of(TOP), made_of(programs[0]).read_text("utf-8").splitlines()[2]
     )
     if asked.install is not None:
-        for path in packing.install(parts, Path(asked.install)):
+        python = f"python{sys.version_info.major}.{sys.version_info.minor}"
+        for path in packing.install(parts, Path(asked.install), python):
             print(f"build: installed {path}", file=sys.stderr)
     if asked.deb is not None:
         print(f"build: made {packing.make_deb(parts, Path(asked.deb))}", file=sys.stderr)

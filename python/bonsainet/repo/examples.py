@@ -4,8 +4,8 @@ A line of scripts/commands is the name of an answer, and then the words; files a
 answers/NAME.out, with NAME.err and NAME.status where these are not empty and 0. scripts/questions has such lines for
 bonsai-ask, scripts/frames for bonsai-all. Checks of several commands:
 
-  twice      a network that `compress` wrote has one class, and compressed again it is the same but for the names of members
-  canonical  `canon` of what `compress` wrote is `canon` of the text but for the names of members, and so is `canon` of what `canon` wrote
+  twice      a network that `compress` wrote has one class, and compressed again it is the same except for the names of members
+  canonical  `canon` of what `compress` wrote is `canon` of the text except for the names of members, and so is `canon` of what `canon` wrote
   round      what `fold` writes is stable in the network that `compress` wrote, and what `lift` makes of it is stable in the text
   reaching   `run` of the order that `reach` writes rests in labels that have the keys of the solution
   certified  `verify` accepts what `certify` writes, for each class of the text
@@ -22,6 +22,7 @@ from __future__ import annotations
 import argparse
 import concurrent.futures
 import dataclasses
+import functools
 import os
 import re
 import shutil
@@ -204,7 +205,7 @@ def without_members(text: Answer) -> Answer:
 
 
 def key_of(words: list[str]) -> list[str]:
-    """Of a label's words the name with what routes are compared by, but for the names of lone routers."""
+    """Of a label's words the name with what routes are compared by, except for the names of lone routers."""
     if words[1] != "bgp":
         return words
     path = words[4 : words.index("comms")]
@@ -218,7 +219,7 @@ def keys_of(labels: bytes) -> list[list[str]]:
 
 
 def faults_of_picture() -> list[str]:
-    """The picture of README is what bonsai-draw draws, but for the places that a version of Graphviz chooses."""
+    """The picture of README is what bonsai-draw draws, except for the places that a version of Graphviz chooses."""
     if not shutil.which("dot"):
         return ["left out: no dot here"]
     drawn = subprocess.run(
@@ -280,7 +281,7 @@ def checks(asked: Asked) -> Iterator[Check]:
     for script, of in PROGRAMS.items():
         for name, *words in lines_of(script):
             told = " ".join(words) if of == "bonsai" else " ".join([of, *words])
-            yield Check(name, told, lambda name=name, words=words, of=of: asked.command(name, *words, of=of))
+            yield Check(name, told, functools.partial(asked.command, name, *words, of=of))
     kinds = (
         ("twice", "twice", "compress twice"),
         ("canonical", "canonical", "canon of compress and of canon"),
@@ -293,10 +294,10 @@ def checks(asked: Asked) -> Iterator[Check]:
         ("twice", "json", "jq reads json"),
     ):
         for words in lines_of(script):
-            yield Check(kind, f"{told} {' '.join(words)}", lambda kind=kind, words=words: getattr(asked, kind)(*words))
+            yield Check(kind, f"{told} {' '.join(words)}", functools.partial(getattr(asked, kind), *words))
     for name in pages():
         if shown_in(name, (TOP / name).read_text("utf-8")):
-            yield Check(name, f"the command lines of {name}", lambda name=name: asked.page(name))
+            yield Check(name, f"the command lines of {name}", functools.partial(asked.page, name))
     yield Check("code", "the code that pages quote", faults_of_code)
     yield Check("picture", "the picture of README.md", faults_of_picture)
     yield Check("definitions", "the list of definitions in docs/inside/PROVED.md", faults_of_definitions)
@@ -305,7 +306,7 @@ def checks(asked: Asked) -> Iterator[Check]:
 
 
 def run(chosen: list[Check]) -> int:
-    """Runs checks side by side, tells of each in order, and returns 1 where one finds a fault."""
+    """Runs checks side by side, reports each in order, and returns 1 where one finds a fault."""
     failed = 0
     with concurrent.futures.ThreadPoolExecutor(AT_ONCE) as pool:
         for check, faults in zip(chosen, pool.map(lambda check: check.faults(), chosen)):

@@ -9,6 +9,7 @@ import sys
 import time
 from collections.abc import Callable
 from pathlib import Path
+from typing import Any
 
 from bonsainet.cli import command_line
 from bonsainet.repo import building
@@ -27,7 +28,7 @@ def clocked() -> Callable[[str], None]:
     return write
 
 
-def table(found: dict[str, object]) -> str:
+def table(found: dict[str, Any]) -> str:
     """The table: a line for each crate in processor minutes, the dearest first, then what no look saw, and the
     whole."""
     crates: dict[str, dict[str, float]] = found["crates"]
@@ -76,7 +77,7 @@ def main(words: list[str] | None = None) -> None:
 
 
 def carry_out(asked: argparse.Namespace) -> None:
-    """Runs and tells, or tells again."""
+    """Runs and reports, or reports again."""
     if asked.verb == "table":
         print(table_of(Path(asked.file or building.FIGURES)), end="")
         return

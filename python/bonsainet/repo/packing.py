@@ -28,6 +28,8 @@ SHARE, MODULES = "share/bonsai", "python/bonsainet"
 READ = ("VERSION", "docs/data/bonsai.schema.json", "docs/use/*.md")
 OF_MAINTAINERS = ("repo", "bench", "corpus", "tests", "__pycache__", "conftest.py")
 IN_REPOSITORY, INSTALLED = 'parent.parent / "python"', 'parent.parent / "share" / "bonsai" / "python"'
+# Where Python looks for modules, by its name: Debian's packages under `python3`, what a person installs under `python3.11`.
+IMPORTED, OF_DEBIAN = "lib/{python}/dist-packages/bonsainet", "python3"
 COMPLETION = (("bonsai-tools.bash", "share/bash-completion/completions"), ("_bonsai-tools", "share/zsh/site-functions"))
 EXAMPLE, EXAMPLES = "examples/folders/campus", "share/doc/bonsai/examples/campus"
 
@@ -56,8 +58,8 @@ Version: {{version}}
 Architecture: amd64
 Maintainer: {MAINTAINER}
 Depends: libc6 (>= 2.34), python3 (>= 3.11), graphviz, python3-graphviz, python3-jinja2
-Recommends: python3-jsonschema
-Suggests: frr, iproute2, openssh-client, parallel, rsync
+Recommends: python3-jsonschema, python3-rich
+Suggests: frr, iproute2, openssh-client, parallel, python3-networkx, python3-pandas, rsync
 Installed-Size: {{size}}
 Section: net
 Priority: optional
@@ -114,9 +116,7 @@ def _git(top: Path, *words: str) -> str:
 
 def write(path: Path, data: bytes, mode: int) -> Path:
     """Writes a file whole, in the place of one that is there. Folders that it makes are open to all users, whatever the mask is."""
-    for folder in [it for it in reversed(path.parents) if not it.exists()]:
-        folder.mkdir(exist_ok=True)
-        folder.chmod(0o755)
+    _make_folder(path.parent)
     new = path.with_name(path.name + ".new")
     new.write_bytes(data)
     new.chmod(mode)
@@ -124,8 +124,16 @@ def write(path: Path, data: bytes, mode: int) -> Path:
     return path
 
 
-def install(parts: Parts, prefix: Path) -> list[Path]:
-    """Installs launcher, programs and tools, their pages of the manual and completions, and an example below the prefix, and returns the files."""
+def _make_folder(path: Path) -> None:
+    """Makes a folder with those above it."""
+    for folder in [it for it in reversed([path, *path.parents][:-1]) if not it.exists()]:
+        folder.mkdir(exist_ok=True)
+        folder.chmod(0o755)
+
+
+def install(parts: Parts, prefix: Path, python: str = OF_DEBIAN) -> list[Path]:
+    """Installs launcher, programs and tools, their pages of the manual and completions, and an example below the prefix, and returns the files.
+    Modules are found by the Python of this name."""
     made = [
         write(prefix / "lib/bonsai/version", f"{parts.version}\n".encode(), 0o644),
         write(prefix / "lib/bonsai/kit", f"{parts.kit}\n".encode(), 0o644),
@@ -140,7 +148,8 @@ def install(parts: Parts, prefix: Path) -> list[Path]:
                     write(prefix / place.format(name=name), (parts.top / source.format(name=name)).read_bytes(), mode)
                 )
         made += _manual(parts.top, name, prefix)
-    return [*made, *_tools(parts.top, prefix), *_modules(parts.top, prefix), *_example(parts.top, prefix)]
+    modules = [*_modules(parts.top, prefix), _imported(prefix, python)]
+    return [*made, *_tools(parts.top, prefix), *modules, *_example(parts.top, prefix)]
 
 
 def _manual(top: Path, name: str, prefix: Path) -> Iterator[Path]:
@@ -175,6 +184,17 @@ def _modules(top: Path, prefix: Path) -> Iterator[Path]:
     for pattern in READ:
         for file in sorted(top.glob(pattern)):
             yield write(prefix / SHARE / file.relative_to(top), file.read_bytes(), 0o644)
+
+
+def _imported(prefix: Path, python: str) -> Path:
+    """A link by which Python finds the package without more words."""
+    link = prefix / IMPORTED.format(python=python)
+    if link.exists() and not link.is_symlink():
+        raise Refused(f"{link}: is there, and is no link to what is installed")
+    _make_folder(link.parent)
+    link.unlink(missing_ok=True)
+    link.symlink_to(os.path.relpath(prefix / SHARE / MODULES, link.parent))
+    return link
 
 
 def _example(top: Path, prefix: Path) -> Iterator[Path]:

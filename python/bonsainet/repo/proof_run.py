@@ -22,7 +22,7 @@ LOOKS_EVERY = 0.5
 
 
 class Sampler:
-    """Looks at the checks below a process until it is told to stop. Keeps those of the last look, and the most that
+    """Looks at the checks below a process until it is stopped. Keeps those of the last look, and the most that
     each took."""
 
     def __init__(self, process: int) -> None:
@@ -51,8 +51,8 @@ class Sampler:
 
 
 class Progress:
-    """One line on standard error that tells how far the proofs are: on a terminal it is written anew, else it stands
-    once a minute."""
+    """One line on standard error that says how far the proofs are: on a terminal it is written anew, elsewhere it is
+    written once a minute."""
 
     def __init__(self, total: int, told: Told, sampler: Sampler, is_alone: bool) -> None:
         self.total, self.told, self.sampler = total, told, sampler
@@ -124,7 +124,7 @@ def run_ci(folder: Path, total: int, take: Callable[[str], None], is_whole: bool
     sampler = Sampler(ran.pid)
     try:
         with Progress(total, told, sampler, is_alone=not is_whole):
-            for line in ran.stdout:
+            for line in ran.stdout or ():
                 told.read(line)
                 take(line)
                 if told.failed and not is_whole:

@@ -21,6 +21,8 @@ TOOLS = {
     "bonsai-page": "TEXT",
     "bonsai-export": "--to frr TEXT MADE",
     "bonsai-every": "TEXT MADE --jobs 1",
+    "bonsai-diff": "TEXT TEXT",
+    "bonsai-why": "TEXT 1 leaf1 leaf2",
 }
 SILENT = ("bonsai-every", "bonsai-import")
 

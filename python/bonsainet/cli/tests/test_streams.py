@@ -7,12 +7,12 @@ from pathlib import Path
 import pytest
 
 from bonsainet.nets.fat_tree import fat_tree_text
-from bonsainet.ask.program import TOP, Program
+from bonsainet.ask.program import ALL, TOP, named
 from bonsainet.ask.where import without_notices
 from bonsainet.tests.asking import LATEST, needs, place_of, slow_program, tool, wait_for
 
-TOOLS = {"bonsai-draw": ["1"], "bonsai-json": [], "bonsai-page": [], "bonsai-every": ["all"]}
-WRITERS = {"bonsai-draw": ["1", "-f", "dot"], "bonsai-json": [], "bonsai-page": []}
+TOOLS: dict[str, list[str]] = {"bonsai-draw": ["1"], "bonsai-json": [], "bonsai-page": [], "bonsai-every": ["all"]}
+WRITERS: dict[str, list[str]] = {"bonsai-draw": ["1", "-f", "dot"], "bonsai-json": [], "bonsai-page": []}
 
 
 def refused(name: str, place: object, cwd: Path, status: int, told: str) -> None:
@@ -137,14 +137,14 @@ def test_an_output_that_is_closed(name: str) -> None:
 
 
 @pytest.mark.parametrize("name", ["bonsai-json", "bonsai-page"])
-def test_an_interrupt_ends_before_all_is_asked(name: str, tmp_path: Path, program: Program) -> None:
-    """Of 32 classes a few are asked, each for half a second; then the tool is interrupted."""
+def test_an_interrupt_ends_before_all_is_asked(name: str, tmp_path: Path) -> None:
+    """Ranges of 32 classes are asked, each for half a second; then the tool is interrupted."""
     (tmp_path / "net.cfg").write_text(fat_tree_text(8))
-    asked = slow_program(program, tmp_path, "0.5")
-    env = os.environ | {"BONSAI_PROGRAM": str(tmp_path / "slow")}
+    asked = slow_program(named(ALL), tmp_path, "0.5")
+    env = os.environ | {"BONSAI_ALL_PROGRAM": str(tmp_path / "slow")}
     command = [TOP / "tools" / name, tmp_path / "net.cfg"]
     started = subprocess.Popen(command, stdout=subprocess.DEVNULL, stderr=subprocess.PIPE, env=env)
-    wait_for(lambda: asked.exists() and asked.read_bytes().count(b"compress") > 1)
+    wait_for(lambda: asked.exists() and b" report " in asked.read_bytes())
     started.send_signal(signal.SIGINT)
     _, told = started.communicate(timeout=LATEST)
     assert (started.returncode, without_notices(told)) == (130, f"{name}: interrupted\n".encode())

@@ -19,7 +19,7 @@ MANY_BYTES = '#!/bin/sh\nhead -c 3000000 /dev/zero 2>/dev/null || { echo "write 
 def launch(*words: str, at: Path = TOP, **more: Any) -> subprocess.CompletedProcess[bytes]:
     """Runs the launcher."""
     env = {**os.environ, **more.pop("env", {})}
-    how = {"stdin": subprocess.DEVNULL, **more}
+    how: dict[str, Any] = {"stdin": subprocess.DEVNULL, **more}
     return subprocess.run([at / "bonsai", *words], capture_output=True, check=False, env=env, **how)
 
 
@@ -80,7 +80,7 @@ def test_help_names_each_command_and_status_of_the_pages() -> None:
     assert all(f"\n  {form} " in told for form in forms)
     assert all(re.search(rf"^ +{status}  {name}: ", told, re.M) for status, name in statuses)
     interrupted = re.search(r"^\| 130 Interrupted \| (.+?) \|", page, re.M)
-    assert f"  130  Interrupted: {interrupted[1]}\n" in told
+    assert interrupted and f"  130  Interrupted: {interrupted[1]}\n" in told
 
 
 @pytest.mark.parametrize("words", [["--help"], ["--version"]])

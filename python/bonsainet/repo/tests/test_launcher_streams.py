@@ -1,12 +1,15 @@
 """The launcher and its program where standard streams are closed, and `-`, which is standard input whatever that is."""
 from __future__ import annotations
 
+import os
+import re
 import socket
 import subprocess
 from pathlib import Path
 
 import pytest
 
+from bonsainet.ask.program import TOP
 from bonsainet.repo.tests.launching import beside, launch, make_clone, script
 
 # What stands for the program: it leaves a file for each standard stream that it has, tells that it was asked, and fails where it cannot.
@@ -71,7 +74,6 @@ def test_the_program_has_the_streams_that_were_given(
 def test_dash_where_standard_input_is_closed(clone: Path, given: dict[str, str]) -> None:
     status, out, err = run_closed(clone, "classes -", "<&-", **given)
     assert (status, out, err.splitlines()[-1]) == (3, b"", b"read fault: standard input")
-    assert not list(clone.parent.glob("has-*"))
 
 
 @pytest.mark.parametrize("closing", ["<&-", ">&-", "2>&-"])
@@ -100,3 +102,46 @@ def test_dash_does_not_take_a_standard_stream(clone: Path, given: dict[str, str]
         ["/bin/sh", "-c", command, clone], stdout=subprocess.PIPE, env=beside(clone, **given), check=False
     )
     assert int(ran.stdout.decode().split("/")[-1]) > 2
+
+
+@pytest.mark.parametrize(
+    "name, words, taken",
+    [
+        ("bonsai", "classes -", "classes IN"),
+        ("bonsai", "groups - 1", "groups IN 1"),
+        ("bonsai", "check F 1 -", "check F 1 IN"),
+        ("bonsai", "groups F -", "groups F -"),
+        ("bonsai", "trial -", "trial -"),
+        ("bonsai", "nonsense -", "nonsense -"),
+        ("bonsai-ask", "- 1 count", "IN 1 count"),
+        ("bonsai-ask", "F questions -", "F questions IN"),
+        ("bonsai-ask", "F 1 route -", "F 1 route -"),
+        ("bonsai-ask", "F - count", "F - count"),
+        ("bonsai-all", "- groups", "IN groups"),
+        ("bonsai-all", "F groups - 2", "F groups - 2"),
+    ],
+)
+def test_dash_stands_for_a_file_alone(name: str, words: str, taken: str, clone: Path, given: dict[str, str]) -> None:
+    named = {f"{name.upper().replace('-', '_')}_PROGRAM": given["BONSAI_PROGRAM"]}
+    ran = launch(clone, *words.split(), name=name, stdin=None, input=b"text", env=beside(clone, **{**given, **named}))
+    told = re.sub(r"/proc/self/fd/\d+", "IN", ran.stdout.decode())
+    assert (ran.returncode, told) == (0, f"asked: {taken}\n")
+
+
+@pytest.mark.parametrize("words", ["classes -", "groups - 1", "check F 10.0.0.0/8 -", "groups F 10.0.0.0/8"])
+def test_words_of_no_form_read_nothing(words: str, clone: Path) -> None:
+    usage = script(clone.parent / "usage", '#!/bin/sh\necho "usage: $*" >&2\nexit 2\n')
+    reader, writer = os.pipe()
+    ran = launch(clone, *words.split(), stdin=reader, env=beside(clone, BONSAI_PROGRAM=str(usage)), timeout=60)
+    os.close(reader)
+    os.close(writer)
+    taken = words.replace("F", "/dev/null").replace("-", "/dev/null").replace("10.0.0.0/8", "1")
+    assert (ran.returncode, ran.stderr.splitlines()[-1].decode()) == (2, f"usage: {taken}")
+
+
+def test_a_class_by_its_prefix_in_a_text_that_is_read_once(tmp_path: Path) -> None:
+    text = TOP / "examples" / "inputs" / "campus.cfg"
+    asked: list[str | Path] = [TOP / "bonsai", "groups", "/dev/stdin", "10.10.0.0/24"]
+    ran = subprocess.run(asked, input=text.read_bytes(), capture_output=True, check=False)
+    wanted = subprocess.run([TOP / "bonsai", "groups", text, "10"], capture_output=True, check=True)
+    assert (ran.returncode, ran.stdout) == (0, wanted.stdout)

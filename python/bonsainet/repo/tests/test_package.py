@@ -12,7 +12,7 @@ from pathlib import Path
 
 import pytest
 
-from bonsainet.ask.program import TOP, Program
+from bonsainet.ask.program import ALL, ASK, BONSAI, TOP, named
 from bonsainet.repo import packing
 from bonsainet.repo.pages import Shown, fits, shown_in
 from bonsainet.repo.skips import has_package
@@ -76,11 +76,13 @@ def package(tmp_path_factory: pytest.TempPathFactory) -> Path:
     (room / "probe").mkdir()
     if entered(room / "probe", "", "true").returncode:
         pytest.skip("no namespace with an overlay of the system here")
-    program = Program().executable()
-    assert program
     (room / "programs").mkdir()
-    shutil.copy(program, room / "programs" / "bonsai")
-    parts = packing.Parts(TOP, [room / "programs" / "bonsai"], packing.version_of(TOP), "the kit of this test")
+    programs = [room / "programs" / name.replace("-", "_") for name in (BONSAI, ASK, ALL)]
+    for name, place in zip((BONSAI, ASK, ALL), programs):
+        program = named(name).executable()
+        assert program
+        shutil.copy(program, place)
+    parts = packing.Parts(TOP, programs, packing.version_of(TOP), "the kit of this test")
     return packing.make_deb(parts, room)
 
 
@@ -125,7 +127,8 @@ def test_each_tool_of_the_package_is_there_with_its_page_and_completion(package:
     results = tmp_path / "results"
     assert (results / "where").read_text() == "/usr/lib/bonsai/bonsai\n"
     wanted = {"bonsai", *(path.name for path in (TOP / "tools").glob("bonsai-*"))}
-    assert set((results / "well").read_text().split()) == wanted
+    found = set((results / "well").read_text().split())
+    assert wanted <= found <= wanted | {"bonsai-all", "bonsai-ask"}
     assert (results / "left").read_text() == ""
 
 
