@@ -14,13 +14,14 @@ import shutil
 import signal
 import subprocess
 import time
+import zlib
 from pathlib import Path
 
 from bonsainet.ask.program import TOP, Answer
 from bonsainet.ask.where import named_by
 from hostile import asked_shut
 from hostile.asking import Asker
-from hostile.judge import answers, asked, asked_words, questions
+from hostile.judge import answers, asked, asked_questions, asked_words, questions
 from hostile.judge.problem import Network
 from hostile.judge.rests import TooLarge
 from hostile.makers import asked as maker
@@ -29,7 +30,9 @@ from hostile.makers import disputes, networks
 CALLS = 8
 READERS = ("search", "solver")
 SLICE = 5.0
-USAGE = 2
+REFUSED, USAGE = 1, 2
+FILES = 0.1
+"""How many of the calls have a file of questions."""
 MEASURED = Path(__file__).resolve().parent / "measured"
 KEPT = MEASURED / "asked.json"
 
@@ -64,19 +67,26 @@ def text_of(chance: random.Random) -> bytes:
 
 
 def fault(
-    net: Network | answers.Expected, words: list[str], answer: Answer, reader: asked.Reader = questions
+    net: Network | answers.Expected,
+    words: list[str],
+    answer: Answer,
+    reader: asked.Reader = questions,
+    file: bytes | None = None,
 ) -> str | None:
-    """Why an answer is not allowed by what a reader finds, or None. TooLarge where the reader cannot tell."""
+    """Why an answer is not allowed by what a reader finds, or None; with a file of questions, to that one. TooLarge where the
+    reader does not find it."""
+    if file is not None:
+        return _fault_of_file(net, file, answer, reader)
     is_refused = isinstance(net, answers.Expected)
     try:
         call = asked_words.call_of(EMPTY if isinstance(net, answers.Expected) else net, words)
     except asked_words.NoForm:
-        return None if answer.status == USAGE and not answer.out else f"status {USAGE}"
+        return _ended_fault(USAGE, asked_words.USAGE, answer)
     except asked_words.Unanswered as why:
         if not is_refused:
-            return _refusal_fault(f"refused: {why}", answer)
+            return _ended_fault(REFUSED, f"refused: {why}", answer)
     if isinstance(net, answers.Expected):
-        return _refusal_fault(net.reason, answer)
+        return _ended_fault(REFUSED, net.reason, answer)
     if answer.status not in (0, 8):
         return "an answer"
     try:
@@ -86,8 +96,21 @@ def fault(
     return None
 
 
-def _refusal_fault(wanted: str, answer: Answer) -> str | None:
-    return None if (answer.status, answer.reason, answer.out) == (1, wanted, b"") else wanted
+def _fault_of_file(net: Network | answers.Expected, file: bytes, answer: Answer, reader: asked.Reader) -> str | None:
+    if isinstance(net, answers.Expected):
+        return _ended_fault(REFUSED, net.reason, answer)
+    try:
+        asked_questions.judge(net, file, answer.status, answer.text, reader)
+    except asked_questions.Faulty as why:
+        return _ended_fault(REFUSED, f"refused: {why}", answer)
+    except asked.Differs as why:
+        return str(why)
+    return None
+
+
+def _ended_fault(status: int, wanted: str, answer: Answer) -> str | None:
+    is_right = (answer.status, answer.reason, answer.out) == (status, wanted, b"")
+    return None if is_right else f"status {status}, {wanted}"
 
 
 EMPTY = Network([], "none", [], [], [])
@@ -118,10 +141,11 @@ def over_text(program: Asker, text: bytes, start: int, found: Found, how: How) -
     found.texts += 1
     made = maker.Maker(chance, EMPTY if isinstance(net, answers.Expected) else net)
     for _ in range(how.calls if not isinstance(net, answers.Expected) else 1):
-        words = made.words()
+        file = made.file() if chance.random() < FILES else None
+        words = made.words() if file is None else ["questions", "S"]
         try:
-            answer = program.ask("F", *words, texts={"F": text})
-            why = fault(net, words, answer, reader_of(how.reader))
+            answer = program.ask("F", *words, texts={"F": text} if file is None else {"F": text, "S": file})
+            why = fault(net, words, answer, reader_of(how.reader), file)
         except TooLarge:
             found.too_large += 1
             continue
@@ -131,7 +155,7 @@ def over_text(program: Asker, text: bytes, start: int, found: Found, how: How) -
         found.calls[("failing " if "failing" in words else "") + ("without " if "without" in words else "") + task] += 1
         found.ends[f"status {answer.status}" + (" tied" if b" tied " in answer.out else "")] += 1
         if why:
-            found.differences.append(_kept(how.keep, text, start, words, why, answer))
+            found.differences.append(_kept(how.keep, text, start, words, why, answer, file))
 
     if not isinstance(net, answers.Expected):
         differs = asked_shut.fault(program, chance, text, net)
@@ -140,13 +164,17 @@ def over_text(program: Asker, text: bytes, start: int, found: Found, how: How) -
             found.differences.append(_kept(how.keep, text, start, *differs, Answer(-1, b"", b"")))
 
 
-TASKS = {*maker.TASKS, "route", "isolated", "hops", "through", "avoids", "carries", "lacks"}
+TASKS = {*maker.TASKS, "questions", "route", "isolated", "hops", "through", "avoids", "carries", "lacks"}
 
 
-def _kept(folder: Path, text: bytes, start: int, words: list[str], why: str, answer: Answer) -> str:
+def _kept(
+    folder: Path, text: bytes, start: int, words: list[str], why: str, answer: Answer, file: bytes | None = None
+) -> str:
     folder.mkdir(parents=True, exist_ok=True)
-    name = f"ask-{start}-{len(words)}-{abs(hash(tuple(words))) % 100000}"
+    name = f"ask-{start}-{len(words)}-{zlib.crc32(' '.join(words).encode() + (file or b''))}"
     (folder / f"{name}.cfg").write_bytes(text)
+    if file is not None:
+        (folder / f"{name}.questions").write_bytes(file)
     told = f"words {' '.join(words)}\nexpected {why}\nstatus {answer.status}\n{answer.text}{answer.err.decode(errors='replace')}"
     (folder / f"{name}.txt").write_text(told)
     return name
@@ -197,7 +225,7 @@ def own_program() -> str | None:
 
 
 def main(arguments: list[str] | None = None) -> int:
-    """Status 0 without a difference, 1 with one, 2 for wrong words."""
+    """Status 0 without a difference, 1 with one or where no text was asked, 2 for wrong words."""
     parser = argparse.ArgumentParser(prog="hostile/ask", description=(__doc__ or "").strip())
     parser.add_argument("--program", help="the program bonsai-ask (default: that of the repository)")
     parser.add_argument("--seconds", type=float, default=20, help="how long (default 20)")
@@ -244,4 +272,4 @@ def main(arguments: list[str] | None = None) -> int:
     if given.record:
         kept = json.loads(KEPT.read_text("utf-8")) if KEPT.is_file() else {}
         KEPT.write_text(json.dumps({**kept, given.record: table}, indent=1) + "\n", "utf-8")
-    return 1 if found.differences else 0
+    return 1 if found.differences or not found.texts else 0

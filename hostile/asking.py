@@ -10,7 +10,7 @@ import select
 import signal
 import subprocess
 
-from bonsainet.ask.program import LOWEST, Answer, Program
+from bonsainet.ask.program import LOWEST, Answer, Program, with_places
 
 SECONDS = 60.0
 LARGEST_READ = 1 << 30
@@ -54,11 +54,11 @@ class Asker(Program):
         os.close(self._err)
 
     def ask(self, *words: str, texts: dict[str, str | bytes] | None = None, seconds: float | None = SECONDS) -> Answer:
-        """Runs a command. A word that is a key of `texts` names a file with that text."""
+        """Runs a command. The first word that is a key of `texts` names a file with that text."""
         files = {name: _file(text) for name, text in (texts or {}).items()}
         places = {name: f"/proc/self/fd/{file}" for name, file in files.items()}
         try:
-            status = self._run([self.path, *(places.get(word, word) for word in words)], seconds)
+            status = self._run([self.path, *with_places(words, places)], seconds)
         finally:
             for file in files.values():
                 os.close(file)
@@ -124,7 +124,7 @@ class Asked:
         """The answer to a command, of which F is this text and S that one. TimeoutExpired where none comes."""
         given = (text, words, S)
         if given not in self.known:
-            texts = {"F": text, "S": S} if "S" in words else {"F": text}
+            texts: dict[str, str | bytes] = {"F": text, "S": S} if "S" in words else {"F": text}
             self.known[given] = self.program.ask(words[0], "F", *words[1:], texts=texts, seconds=SECONDS)
             self.counts.note(words[0], self.known[given])
         return self.known[given]

@@ -128,7 +128,8 @@ class Rounds:
     def the_same_network(self, listed: Answer) -> None:
         """Routers in another order, under other names or numbers, or with lines moved: the same classes and groups up
         to that."""
-        how, change = self.chance.choice(["permuted", "renamed", "renumbered", "moved-lines", "rewritten"]), {}
+        how = self.chance.choice(["permuted", "renamed", "renumbered", "moved-lines", "rewritten"])
+        change: dict[str, str] = {}
         if how == "permuted":
             other = permutations.reordered(self.chance, self.text)
         elif how == "renamed":

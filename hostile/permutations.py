@@ -101,7 +101,7 @@ def _other_names(chance: random.Random, router: Router) -> dict[tuple[str, str],
         "community-list": (("ip", "community-list", "standard"), 3),
         "route-map": (("route-map",), 1),
     }
-    found = {}
+    found: dict[tuple[str, str], str] = {}
     for kind, (head, place) in places.items():
         for stanza in router.with_head(*head):
             name = stanza.head.words[place]

@@ -141,8 +141,8 @@ def part_of_job(plan: Plan, number: int, turn: int, seconds: float) -> tuple[Fou
 
 def _used() -> tuple[float, float]:
     """The processor seconds of this process, and of the programs that it ran."""
-    parts = (resource.getrusage(who) for who in (resource.RUSAGE_SELF, resource.RUSAGE_CHILDREN))
-    return tuple(part.ru_utime + part.ru_stime for part in parts)
+    own, children = (resource.getrusage(who) for who in (resource.RUSAGE_SELF, resource.RUSAGE_CHILDREN))
+    return own.ru_utime + own.ru_stime, children.ru_utime + children.ru_stime
 
 
 def _kept(program: Program, text: bytes, start: int, difference: Difference, plan: Plan) -> str:

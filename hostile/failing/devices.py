@@ -1,4 +1,4 @@
-"""Devices that fail: what a command must end with, by the table of statuses in docs/use/COMMANDS.md."""
+"""Devices that fail: what a command of each program must end with, by the table of statuses in docs/use/COMMANDS.md."""
 from __future__ import annotations
 
 import contextlib
@@ -9,55 +9,86 @@ import threading
 import time
 from collections.abc import Callable
 from pathlib import Path
+from typing import IO, Any
 
 from bonsainet.ask.native import program_file
 from bonsainet.ask.program import TOP
 
 FABRIC = str(TOP / "examples" / "inputs" / "fabric.cfg")
+CAMPUS = str(TOP / "examples" / "inputs" / "campus.cfg")
 SOLUTION = str(TOP / "examples" / "inputs" / "fabric-solution.txt")
 End = tuple[int, bytes, bytes]
 """A status, what was written, and the line on standard error."""
+# Of each program a command that writes more than 512 bytes.
+WRITING = {
+    "bonsai": ["compress", FABRIC, "1"],
+    "bonsai-ask": [CAMPUS, "*", "solutions"],
+    "bonsai-all": [FABRIC, "compress"],
+}
+PROGRAMS = list(WRITING)
 
 
-def end(words: list[str], **more: object) -> End:
-    """Runs a command to its end."""
-    ran = subprocess.run(
-        [program_file(), *words], stderr=subprocess.PIPE, check=False, timeout=60, **{"stdout": subprocess.PIPE, **more}
+def reading(program: str, file: object) -> list[str]:
+    """Words that only read F."""
+    return {"bonsai": ["classes", f"{file}"], "bonsai-ask": [f"{file}", "*", "count"]}.get(
+        program, [f"{file}", "groups"]
     )
+
+
+def reading_second(program: str, file: object) -> list[str]:
+    """Words that read F and then S."""
+    return [FABRIC, "questions", f"{file}"] if program == "bonsai-ask" else ["check", FABRIC, "1", f"{file}"]
+
+
+def end(words: list[str], program: str = "bonsai", **more: Any) -> End:
+    """Runs a command of a program to its end."""
+    given: dict[str, Any] = {"stdout": subprocess.PIPE, **more}
+    ran = subprocess.run([program_file(program), *words], stderr=subprocess.PIPE, check=False, timeout=60, **given)
     return ran.returncode, ran.stdout or b"", ran.stderr
 
 
-def plain() -> bytes:
-    """What `compress` of the example writes where nothing fails."""
-    return end(["compress", FABRIC, "1"])[1]
+def _rest(stream: IO[bytes] | None) -> bytes:
+    return stream.read() if stream else b""
 
 
-def full() -> End:
+def plain(program: str = "bonsai") -> bytes:
+    """What the command that writes does where nothing fails."""
+    return end(WRITING[program], program)[1]
+
+
+def full(program: str = "bonsai") -> End:
     """The output takes nothing."""
     with open("/dev/full", "wb") as device:
-        return end(["compress", FABRIC, "1"], stdout=device)
+        return end(WRITING[program], program, stdout=device)
 
 
-def closed_pipe() -> End:
+def closed_pipe(program: str = "bonsai") -> End:
     """Nobody reads the output."""
     reader, writer = os.pipe()
     os.close(reader)
     with os.fdopen(writer, "wb") as device:
-        return end(["compress", FABRIC, "1"], stdout=device)
+        return end(WRITING[program], program, stdout=device)
 
 
-def closed_output() -> End:
+def closed_output(program: str = "bonsai") -> End:
     """There is no standard output at all."""
-    return end(["compress", FABRIC, "1"], preexec_fn=lambda: os.close(1), stdout=None)
+    return end(WRITING[program], program, preexec_fn=lambda: os.close(1), stdout=None)
 
 
-def full_error() -> int:
+def full_error(program: str = "bonsai", words: list[str] | None = None) -> int:
     """Standard error takes nothing, where a line has to be said there: the status."""
+    asked = [program_file(program), *(words or [])]
     with open("/dev/full", "wb") as device:
-        return subprocess.run([program_file()], stderr=device, stdout=subprocess.PIPE, check=False).returncode
+        return subprocess.run(asked, stderr=device, stdout=subprocess.PIPE, check=False).returncode
 
 
-def small_file(folder: Path) -> End:
+def closed_error(program: str, words: list[str]) -> int:
+    """There is no standard error at all, where a line has to be said there: the status."""
+    asked = [program_file(program), *words]
+    return subprocess.run(asked, preexec_fn=lambda: os.close(2), stdout=subprocess.PIPE, check=False).returncode
+
+
+def small_file(folder: Path, program: str = "bonsai") -> End:
     """The output is a file that may not grow beyond 512 bytes."""
     import resource
 
@@ -67,34 +98,34 @@ def small_file(folder: Path) -> End:
 
     file = folder / "small"
     with file.open("wb") as device:
-        status, _, err = end(["compress", FABRIC, "1"], stdout=device, preexec_fn=limit)
+        status, _, err = end(WRITING[program], program, stdout=device, preexec_fn=limit)
     return status, file.read_bytes(), err
 
 
-def directory(folder: Path) -> End:
+def directory(folder: Path, program: str = "bonsai") -> End:
     """F is a directory."""
-    return end(["classes", str(folder)])
+    return end(reading(program, folder), program)
 
 
-def vanished(folder: Path) -> End:
+def vanished(folder: Path, program: str = "bonsai") -> End:
     """F is no more."""
-    return end(["classes", str(folder / "nowhere.cfg")])
+    return end(reading(program, folder / "nowhere.cfg"), program)
 
 
-def second_vanished(folder: Path) -> End:
+def second_vanished(folder: Path, program: str = "bonsai") -> End:
     """S is no more."""
-    return end(["check", FABRIC, "1", str(folder / "nowhere.txt")])
+    return end(reading_second(program, folder / "nowhere.txt"), program)
 
 
-def dangling(folder: Path) -> End:
+def dangling(folder: Path, program: str = "bonsai") -> End:
     """F is a link to nothing."""
     (folder / "link").symlink_to(folder / "nowhere.cfg")
-    return end(["classes", str(folder / "link")])
+    return end(reading(program, folder / "link"), program)
 
 
-def second_directory(folder: Path) -> End:
+def second_directory(folder: Path, program: str = "bonsai") -> End:
     """S is a directory."""
-    return end(["check", FABRIC, "1", str(folder)])
+    return end(reading_second(program, folder), program)
 
 
 def growing(folder: Path) -> End:
@@ -130,22 +161,22 @@ def removed(folder: Path) -> End:
     return _fed(folder, lambda name: ["classes", name], feed)
 
 
-def own_memory() -> End:
+def own_memory(program: str = "bonsai") -> End:
     """F can be begun and not be read: the memory of a process, of which the first byte is not there."""
-    return end(["classes", "/proc/self/mem"])
+    return end(reading(program, "/proc/self/mem"), program)
 
 
-def endless() -> End:
+def endless(program: str = "bonsai") -> End:
     """F never ends."""
-    return end(["classes", "/dev/zero"])
+    return end(reading(program, "/dev/zero"), program)
 
 
-def empty() -> End:
+def empty(program: str = "bonsai") -> End:
     """F has nothing."""
-    return end(["classes", "/dev/null"])
+    return end(reading(program, "/dev/null"), program)
 
 
-def _fed(folder: Path, words: Callable[[str], list[str]], feed: Callable[[int], None]) -> End:
+def _fed(folder: Path, words: Callable[[str], list[str]], feed: Callable[[int], object]) -> End:
     fifo = folder / "fifo"
     os.mkfifo(fifo)
 
@@ -192,7 +223,7 @@ def slow_reader() -> End:
         while byte := os.read(reader, 1):
             taken += byte
         os.close(reader)
-        return ran.wait(60), bytes(taken), ran.stderr.read()
+        return ran.wait(60), bytes(taken), _rest(ran.stderr)
 
 
 def reader_goes_away(folder: Path) -> End:
@@ -204,7 +235,7 @@ def reader_goes_away(folder: Path) -> End:
         os.close(writer)
         taken = os.read(reader, 100)
         os.close(reader)
-        return ran.wait(60), taken, ran.stderr.read()
+        return ran.wait(60), taken, _rest(ran.stderr)
 
 
 def many_classes(count: int) -> str:
@@ -232,4 +263,4 @@ def ended_by(number: int, folder: Path) -> tuple[int, bytes]:
         ran.send_signal(number)
         status = ran.wait(10)
         os.close(place)
-        return status, ran.stdout.read()
+        return status, _rest(ran.stdout)

@@ -24,6 +24,9 @@ from bonsainet.ask.native import program_file
 from bonsainet.ask.program import TOP, Program
 
 SOURCE = Path(__file__).with_name("refuse.c")
+End = tuple[int, bytes, bytes]
+# The programs whose words begin with F.
+BESIDE = ("bonsai-ask", "bonsai-all")
 OUT_OF_MEMORY = (5, b"", b"out of memory\n")
 BEFORE_WORDS = (5, b"", b"")
 
@@ -50,10 +53,20 @@ def allocator(folder: Path) -> Path:
     return library
 
 
-def _run(words: tuple[str, ...], library: Path, **more: str) -> tuple[int, bytes, bytes]:
+def _asked(words: tuple[str, ...]) -> list[str]:
+    """A command with the file of its program: `bonsai`, or the one that its first word names."""
     # (the launcher is a script, whose memory would fail first)
+    return [program_file(words[0]), *words[1:]] if words[0] in BESIDE else [program_file(), *words]
+
+
+def _without_form(words: tuple[str, ...]) -> tuple[str, ...]:
+    """As many words of the same program, of no form."""
+    return (*words[:2], "nonsense", *words[3:]) if words[0] in BESIDE else ("nonsense", *words[1:])
+
+
+def _run(words: tuple[str, ...], library: Path, **more: str) -> End:
     ran = subprocess.run(
-        [program_file(), *words],
+        _asked(words),
         env={**os.environ, "LD_PRELOAD": str(library), **more},
         capture_output=True,
         check=False,
@@ -61,7 +74,7 @@ def _run(words: tuple[str, ...], library: Path, **more: str) -> tuple[int, bytes
     return ran.returncode, ran.stdout, ran.stderr
 
 
-def count(words: tuple[str, ...], library: Path, folder: Path) -> tuple[int, tuple[int, bytes, bytes]]:
+def count(words: tuple[str, ...], library: Path, folder: Path) -> tuple[int, End]:
     """How many allocations a command makes, and its answer. Refused where there is none, since a build with checks of
     memory has an allocator of its own."""
     file = folder / "count"
@@ -69,7 +82,7 @@ def count(words: tuple[str, ...], library: Path, folder: Path) -> tuple[int, tup
     found = int(file.read_text())
     if not found:
         raise Refused(
-            f"{program_file()}: has an allocator of its own: take the proved program, or `hostile/plant --as-it-is`"
+            f"{_asked(words)[0]}: has an allocator of its own: take the proved program, or `hostile/plant --as-it-is`"
         )
     return found, answer
 
@@ -79,13 +92,22 @@ def wrong(words: tuple[str, ...], library: Path, folder: Path, most: int | None 
 
     At most `most` of them, spread evenly, where there are more."""
     total, plain = count(words, library, folder)
-    before, _ = count(("nonsense", *words[1:]), library, folder)
+    before, _ = count(_without_form(words), library, folder)
     step = 1 if most is None else max(1, total // most)
     for place in range(1, total + 1, step):
-        for more in ({}, {"FAIL_ALL": "1"}):
+        for fails_all in (False, True):
+            more = {"FAIL_ALL": "1"} if fails_all else {}
             ended = _run(words, library, FAIL_AT=str(place), **more)
-            if ended not in (plain, OUT_OF_MEMORY) and not (ended == BEFORE_WORDS and place <= before):
-                yield Wrong(words, place, bool(more), *ended)
+            if not _is_allowed(words, ended, plain) and not (ended == BEFORE_WORDS and place <= before):
+                yield Wrong(words, place, fails_all, *ended)
+
+
+def _is_allowed(words: tuple[str, ...], ended: End, plain: End) -> bool:
+    """Whether a run ended as without the fault, or out of memory: with nothing written, or of the programs that write each
+    answer before the next one is begun a first part of the output."""
+    status, out, err = ended
+    is_begun = words[0] in BESIDE and (status, err) == (OUT_OF_MEMORY[0], OUT_OF_MEMORY[2]) and plain[1].startswith(out)
+    return ended in (plain, OUT_OF_MEMORY) or is_begun
 
 
 def networks(folder: Path, each: int = 4) -> list[str]:
@@ -138,6 +160,12 @@ def commands(texts: list[str], folder: Path) -> Iterator[tuple[str, ...]]:
             ("run", text, "1", names["rounds"]),
             ("verify", text, "1", names["certificate"]),
         ]
+        questions = folder / f"{number}-questions"
+        questions.write_text("1 count\n1 failing links route *\n")
+        for task in ("count", "solutions", "forwards", "route *", "hops 1 *", "lacks 1:1 *", "failing routers route *"):
+            yield ("bonsai-ask", text, "*", *task.split())
+        yield "bonsai-ask", text, "questions", str(questions)
+        yield from (("bonsai-all", text, word) for word in ("groups", "compress", "json", "certify"))
     yield "trial", "4"
 
 

@@ -18,7 +18,7 @@ from bonsainet.bench.states import in_ascii, kind, machine, program_at
 from bonsainet.cli.command_line import Refused
 from bonsainet.lab.enclosure import refuse_unless_able
 from hostile.figure import drawing, measuring
-from hostile.figure.measuring import Disagreement, Row, measure_frr, measured
+from hostile.figure.measuring import Disagreement, Row, measure_frr, measure_programs, measured
 from hostile.figure.networks import FAMILIES
 
 KEPT = TOP / "bench" / "measured" / "asked.csv"
@@ -42,6 +42,11 @@ def main(arguments: list[str] | None = None) -> int:
         action="store_true",
         help="measure nothing else: put into the kept rows what FRR takes, which needs root",
     )
+    parser.add_argument(
+        "--again",
+        action="store_true",
+        help="measure the two programs alone, over the kept rows: what Z3 and FRR took stays",
+    )
     parser.add_argument("--keep", action="store_true", help=f"keep the rows in {KEPT.relative_to(TOP)}")
     parser.add_argument(
         "--draw",
@@ -55,7 +60,9 @@ def main(arguments: list[str] | None = None) -> int:
     if not given.bonsai or not (given.ask or given.frr):
         parser.error("--bonsai and --ask name the programs")
     if given.frr:
-        return _frr(program_at(given.bonsai), given.only)
+        return _frr(program_at(given.bonsai), given.only, given.most)
+    if given.again:
+        return _again(program_at(given.bonsai), program_at(given.ask), given.limit)
     if not shutil.which("z3"):
         print("asked: the program z3 is not there: install the package z3", file=sys.stderr)
         return 1
@@ -82,17 +89,38 @@ def main(arguments: list[str] | None = None) -> int:
     return 0
 
 
-def _frr(bonsai: Path, only: list[str] | None) -> int:
+def _again(bonsai: Path, ask: Path, limit: int) -> int:
+    """Puts what the two programs take into the kept rows."""
+    rows, load = read(KEPT), os.getloadavg()[0]
+    told = KEPT.read_text("ascii").partition("\n")[0].removeprefix("# ")
+    by_name = {family.name: family for family in FAMILIES}
+    for row in rows:
+        measure_programs(bonsai, ask, by_name[row.family], row)
+        print(f"asked: {row}", file=sys.stderr, flush=True)
+    _, frr, of_frr = told.partition("; FRR: ")
+    keep(rows, _told(load, bonsai, ask, limit) + frr + of_frr)
+    return 0
+
+
+def _frr(bonsai: Path, only: list[str] | None, most: int) -> int:
     """Puts what FRR takes into the kept rows that have none."""
     refuse_unless_able()
     told, rows = KEPT.read_text("ascii").partition("\n")[0].removeprefix("# "), read(KEPT)
-    by_name = {family.name: family for family in FAMILIES}
-    for row in rows:
-        if row.frr_after is None and (not only or row.family in only):
-            measure_frr(bonsai, by_name[row.family], row)
-            print(f"asked: {row}", file=sys.stderr, flush=True)
-            keep(rows, told)
+    load = os.getloadavg()[0]
+    for family in FAMILIES:
+        before = None
+        for row in (row for row in rows if row.family == family.name and row.size <= most):
+            if row.frr_after is None and (not only or row.family in only):
+                measure_frr(bonsai, family, row, before)
+                print(f"asked: {row}", file=sys.stderr, flush=True)
+                keep(rows, _with_frr(told, load))
+            before = row
     return 0
+
+
+def _with_frr(told: str, load: float) -> str:
+    date, now = time.strftime("%Y-%m-%d"), os.getloadavg()[0]
+    return in_ascii(f"{told.partition('; FRR: ')[0]}; FRR: {date}, load {load:.0f} before and {now:.0f} after")
 
 
 def _told(load: float, bonsai: Path, ask: Path, limit: int) -> str:

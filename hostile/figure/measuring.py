@@ -2,12 +2,15 @@
 
 from __future__ import annotations
 
+import contextlib
 import dataclasses
 import resource
 import subprocess
 import tempfile
+from collections.abc import Iterator
 from pathlib import Path
 
+from bonsainet.ask.program import Program, Size
 from bonsainet.cli.command_line import Refused
 from bonsainet.configs.network import read_network
 from bonsainet.exporting import frr
@@ -23,7 +26,7 @@ from hostile.solver.solving import route_texts
 
 MOST_SECONDS = 60
 MOST_MEMORY = 8 << 30
-MOST_ON_FRR = 32
+MOST_ON_FRR = 200
 FRR_SECONDS = 240
 QUIET = 4.0
 GAVE_UP = float("inf")
@@ -36,8 +39,8 @@ class Disagreement(Exception):
 @dataclasses.dataclass
 class Row:
     """A network before and after `compress`: its sizes, and processor seconds of each. None: not tried; infinite: given
-    up after a minute. Those of FRR are of all daemons together until they rest; `rest` is by the clock, and given up
-    after four minutes."""
+    up after a minute. Those of FRR are of all daemons together until they rest, and may be more than a minute; `rest` is by
+    the clock, and given up after four minutes."""
 
     family: str
     size: int
@@ -94,23 +97,35 @@ def by_solver(text: str, prefix: str) -> tuple[str, float]:
 
 def by_program(program: Path, text: str, prefix: str) -> tuple[str, float]:
     """The answer of `bonsai-ask`, and its processor seconds."""
-    with tempfile.NamedTemporaryFile("w", suffix=".cfg") as file:
-        file.write(text)
-        file.flush()
-        out, seconds = ran([str(program), file.name, prefix, "route", "*"])
+    with _file_of(text) as name:
+        out, seconds = ran([str(program), name, prefix, "route", "*"])
     return (out.split()[2] if out else ""), seconds
 
 
-def compressed(bonsai: Path, text: str, prefix: str) -> tuple[str, float]:
-    """What `compress` writes for the class of a prefix, and its processor seconds."""
-    net = answers.read(text.encode())
-    assert isinstance(net, Network)
-    number = class_of(net, prefix)
-    assert number is not None
+@dataclasses.dataclass(frozen=True)
+class Compressed:
+    """A class of a text: its sizes before and after `compress`, what that writes, and its processor seconds."""
+
+    size: Size
+    text: str
+    seconds: float
+
+
+def compressed(bonsai: Path, text: str, prefix: str) -> Compressed:
+    """The class of a prefix, compressed."""
+    program = Program(str(bonsai))
+    number = next(found.number for found in program.classes(text) if prefix in found.prefixes)
+    with _file_of(text) as name:
+        out, seconds = ran([str(bonsai), "compress", name, str(number)])
+    return Compressed(program.size(text, number), out, seconds)
+
+
+@contextlib.contextmanager
+def _file_of(text: str) -> Iterator[str]:
     with tempfile.NamedTemporaryFile("w", suffix=".cfg") as file:
         file.write(text)
         file.flush()
-        return ran([str(bonsai), "compress", file.name, str(number + 1)])
+        yield file.name
 
 
 def on_frr(text: str, prefix: str) -> tuple[float, float]:
@@ -124,20 +139,13 @@ def on_frr(text: str, prefix: str) -> tuple[float, float]:
     return record["work"], record["rest"]
 
 
-def sizes(text: str) -> tuple[int, int]:
-    """Routers and links of a text."""
-    net = answers.read(text.encode())
-    assert isinstance(net, Network)
-    return len(net.routers), len(net.links)
-
-
 def measured(bonsai: Path, ask: Path, family: Family, size: int, before: Row | None) -> Row:
     """The row of a size. What was given up at the size before is not tried again. Disagreement where answers differ."""
     text, prefix = family.text(size), family.prefix
-    small, compress = compressed(bonsai, text, prefix)
+    small = compressed(bonsai, text, prefix)
     told: dict[str, str] = {}
     found: dict[str, float | None] = {}
-    for name, given in (("", text), ("_after", small)):
+    for name, given in (("", text), ("_after", small.text)):
         for who in ("solver", "ask"):
             if before and getattr(before, who + name) in (None, GAVE_UP):
                 found[who + name] = None
@@ -148,18 +156,33 @@ def measured(bonsai: Path, ask: Path, family: Family, size: int, before: Row | N
                 told[who + name] = answer
     if len(set(told.values())) > 1:
         raise Disagreement(f"{family.name} {size}: {told}")
-    routers, links = sizes(text)
-    groups, links_after = sizes(small)
+    of = small.size
     return Row(
-        family.name, size, routers, links, groups, links_after, next(iter(told.values()), ""), compress,
+        family.name, size, of.routers, of.links, of.groups, of.links_after, next(iter(told.values()), ""), small.seconds,
         found["solver"], found["solver_after"], found["ask"], found["ask_after"],
     )  # fmt: skip
 
 
-def measure_frr(bonsai: Path, family: Family, row: Row) -> None:
-    """Puts into a row what FRR takes to rest, before and after `compress`, where it is small enough."""
+def measure_programs(bonsai: Path, ask: Path, family: Family, row: Row) -> None:
+    """Puts into a row what `compress` and `bonsai-ask` take. Disagreement where the answer is another one."""
     text = family.text(row.size)
-    if row.routers <= MOST_ON_FRR:
+    small = compressed(bonsai, text, family.prefix)
+    answer, row.ask = by_program(ask, text, family.prefix)
+    answer_after, row.ask_after = by_program(ask, small.text, family.prefix)
+    row.compress = small.seconds
+    if {answer, answer_after} != {row.answer}:
+        raise Disagreement(f"{family.name} {row.size}: {row.answer}, now {answer} and {answer_after}")
+
+
+def is_for_frr(routers: int, smaller: float | None) -> bool:
+    """Whether FRR is started: in a lab that is not too large, where the one of the size before took no minute."""
+    return routers <= MOST_ON_FRR and (smaller is None or smaller <= MOST_SECONDS)
+
+
+def measure_frr(bonsai: Path, family: Family, row: Row, before: Row | None) -> None:
+    """Puts into a row what FRR takes to rest, before and after `compress`. `before` is the row of the size before."""
+    text = family.text(row.size)
+    if is_for_frr(row.routers, before.frr if before else None):
         row.frr, row.rest = on_frr(text, family.prefix)
-    if row.groups <= MOST_ON_FRR:
-        row.frr_after, row.rest_after = on_frr(compressed(bonsai, text, family.prefix)[0], family.prefix)
+    if is_for_frr(row.groups, before.frr_after if before else None):
+        row.frr_after, row.rest_after = on_frr(compressed(bonsai, text, family.prefix).text, family.prefix)

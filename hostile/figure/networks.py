@@ -9,7 +9,7 @@ from ipaddress import IPv4Network
 from bonsainet.nets import synthetic
 from bonsainet.nets.campus import campus_text
 from bonsainet.nets.fat_tree import fat_tree_text
-from hostile.resting.networks import internet
+from bonsainet.nets.preferring import internet_text
 
 SPINES = 8
 ACCESS = 8
@@ -43,7 +43,7 @@ def data_centre(leaves: int) -> str:
 
 def internet_of(count: int) -> str:
     """An internet of so many ASes that prefer customers to peers to providers."""
-    return internet(1, count)
+    return internet_text(1, count)
 
 
 def campus_of(blocks: int) -> str:
@@ -52,10 +52,10 @@ def campus_of(blocks: int) -> str:
 
 
 FAMILIES = (
-    Family("fat tree", fat_tree_text, (4, 6, 8, 10, 12, 20), "10.0.0.0/24"),
-    Family("ring", synthetic.ring, (16, 64, 256, 1000), "10.0.0.0/24"),
+    Family("fat tree", fat_tree_text, (4, 6, 8, 10, 12, 16, 20, 30), "10.0.0.0/24"),
+    Family("ring", synthetic.ring, (16, 64, 256, 1000, 4000), "10.0.0.0/24"),
     Family("full mesh", synthetic.mesh, (8, 16, 32, 64, 128), "10.0.0.0/24"),
-    Family("data centre", data_centre, (8, 32, 128, 512), "10.0.0.0/24"),
-    Family("internet", internet_of, (8, 16, 32, 64, 128), "10.0.0.0/24"),
-    Family("campus", campus_of, (2, 8, 32, 100), "10.0.0.0/24"),
+    Family("data centre", data_centre, (8, 32, 128, 512, 2048), "10.0.0.0/24"),
+    Family("internet", internet_of, (8, 16, 32, 64, 128, 256, 512), "10.0.0.0/24"),
+    Family("campus", campus_of, (2, 8, 32, 100, 300), "10.0.0.0/24"),
 )

@@ -3,6 +3,7 @@
 from __future__ import annotations
 
 import dataclasses
+import functools
 import re
 from collections import Counter
 from typing import Protocol
@@ -12,8 +13,9 @@ from hostile.judge.network import Refused
 from hostile.judge.problem import Network, Problem, problem
 from hostile.judge.questions import Question, Verdict
 from hostile.judge.rests import Down
+from hostile.judge.ties import Word, ties
 
-TIED = r"(?: tied (?P<router>\S+) (?:communities|path))?"
+TIED = r"(?: tied (?P<router>\S+) (?P<by>communities|path))?"
 
 
 class Differs(Exception):
@@ -22,7 +24,8 @@ class Differs(Exception):
 
 @dataclasses.dataclass(frozen=True)
 class Call:
-    """What is asked: classes by place, whether the words name one class alone, what is down, and the task."""
+    """What is asked: classes by place, whether the words name one class alone, what is down, the task, and whether labels
+    follow a `no`."""
 
     numbers: tuple[int, ...]
     is_single: bool
@@ -30,6 +33,7 @@ class Call:
     task: str
     question: Question | None = None
     failing: str | None = None
+    shows: bool = True
 
 
 class Reader(Protocol):
@@ -82,13 +86,12 @@ class Judge:
     def judge(self, call: Call, status: int, out: str) -> None:
         """Raises Differs where the output and status are none that are allowed."""
         lines = Lines(out)
-        is_good = True
-        for number in call.numbers:
-            is_good &= self._class(call, number, lines)
-        if lines.rest:
-            raise Differs(f"no line {lines.rest[0]!r}")
-        if status != (0 if is_good else 8):
-            raise Differs(f"status {0 if is_good else 8}")
+        end(lines, status, self.is_good(call, lines))
+
+    def is_good(self, call: Call, lines: Lines) -> bool:
+        """Whether each answer is `yes`. Raises Differs where the next lines are none that are allowed."""
+        found = [self._class(call, number, lines) for number in call.numbers]
+        return all(found)
 
     def _class(self, call: Call, number: int, lines: Lines) -> bool:
         head = f"class {number + 1} "
@@ -121,17 +124,25 @@ class Judge:
         whole = self.reader.verdict(self.net, number, call.question, call.down)
         tie = "" if whole.word == "no" else TIED
         found = lines.take(re.escape(f"class {number + 1} {whole.word}") + tie)
-        if whole.word != "no" and whole.ties_matter and not found["router"]:
-            raise Differs("a line with `tied`")
+        if whole.word != "no":
+            self._tied(number, call.down, whole, found)
         is_good = whole.word == "yes"
         if call.failing:
             return self._failing(call, number, lines) and is_good
-        if whole.word == "no" and call.is_single:
+        if whole.word == "no" and call.is_single and call.shows:
             left = self._left(number, call.down)
             held = read(left, lines.many(len(left.names)))
             if questions.is_true(left, held, call.question, call.down):
                 raise Differs("labels that make the question false")
         return is_good
+
+    def _tied(self, number: int, down: Down, whole: Verdict, found: re.Match[str]) -> None:
+        if whole.ties_matter and not found["router"]:
+            raise Differs("a line with `tied`")
+        known = _ties(self.net, number, down)
+        if found["router"] and known is not None and Word(found["by"]) not in known.get(found["router"], ()):
+            told = ", ".join(f"{name} {word.value}" for name, words in known.items() for word in words)
+            raise Differs(f"a tie that can be met: {told or 'none'}")
 
     def _failing(self, call: Call, number: int, lines: Lines) -> bool:
         assert call.question
@@ -143,13 +154,26 @@ class Judge:
                 lines.take(re.escape(f"{head} {one.word}"))
                 bad += 1
             least_tied += one.word != "no" and one.ties_matter
-            most_tied += one.word != "no"
+            most_tied += one.word != "no" and _ties(self.net, number, down) != {}
         last = lines.take(
             re.escape(f"class {number + 1} failing {bad} of {len(cases)}") + r"(?: tied (?P<tied>[1-9][0-9]*))?"
         )
         if not least_tied <= int(last["tied"] or 0) <= most_tied:
             raise Differs(f"from {least_tied} to {most_tied} tied problems")
         return bad == 0
+
+
+def end(lines: Lines, status: int, is_good: bool) -> None:
+    """Raises Differs where lines are left, or the status is another."""
+    if lines.rest:
+        raise Differs(f"no line {lines.rest[0]!r}")
+    if status != (0 if is_good else 8):
+        raise Differs(f"status {0 if is_good else 8}")
+
+
+@functools.lru_cache(64)
+def _ties(net: Network, number: int, down: Down) -> dict[str, frozenset[Word]] | None:
+    return ties(rests.without(problem(net, net.classes[number]), down))
 
 
 def judge(net: Network, call: Call, status: int, out: str, reader: Reader = questions) -> None:

@@ -11,6 +11,10 @@ from hostile.judge.questions import Question
 from hostile.judge.rests import Down
 
 NUMBER = re.compile(r"0|[1-9][0-9]{0,8}")
+USAGE = (
+    "usage: bonsai-ask F questions S, or F N [without DOWN] count | solutions | forwards | [failing links|routers] QUESTION; "
+    "QUESTION: route R, isolated R, hops H R, through W R, avoids W R, carries C R, lacks C R"
+)
 
 
 class NoForm(Exception):

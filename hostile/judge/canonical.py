@@ -38,6 +38,7 @@ def canon_fault(net: problem.Network, number: int, text: bytes) -> str | None:
     if fault or net.protocol != "bgp":
         return fault
     small = answers.read(text)
+    assert isinstance(small, problem.Network), "compress_fault has read it"
     below = next(one for one in small.classes if set(net.classes[number - 1].prefixes) <= set(one.prefixes))
     made = problem.problem(small, below, problem.named(net.routers) | problem.named(small.routers))
     lines: dict[problem.Act, object] = {}
@@ -53,20 +54,21 @@ def canon_fault(net: problem.Network, number: int, text: bytes) -> str | None:
 def _written(router: Router, line: Neighbor, way: str) -> object:
     """The lists and maps of a neighbour in one direction, without their names and the number that prepending
     repeats."""
-    listed = [router.prefix_lists[name] for name in [line.lists.get(way)] if name]
-    mapped = [
-        [(number, _entry(router, entry)) for number, entry in sorted(router.maps[name].items())]
-        for name in [line.maps.get(way)]
-        if name
-    ]
+    list_name, map_name = line.lists.get(way), line.maps.get(way)
+    listed = router.prefix_lists[list_name] if list_name else None
+    mapped = (
+        [(number, _entry(router, entry)) for number, entry in sorted(router.maps[map_name].items())]
+        if map_name
+        else None
+    )
     return line.sends or way == "in", listed, mapped
 
 
 def _entry(router: Router, entry: Entry) -> object:
-    def communities(name: str) -> object:
+    def lines_of(name: str) -> object:
         return [(permits, named) for permits, named, _ in router.community_lists[name]]
 
-    matched = entry.community_lists and [communities(name) for name in entry.community_lists]
-    prefixes = entry.prefix_lists and [router.prefix_lists[name] for name in entry.prefix_lists]
-    deleted = entry.deletes and communities(entry.deletes)
+    matched = [lines_of(name) for name in entry.community_lists or ()]
+    prefixes = [router.prefix_lists[name] for name in entry.prefix_lists or ()]
+    deleted = lines_of(entry.deletes) if entry.deletes else None
     return entry.permits, matched, entry.exact, prefixes, entry.preference, deleted, entry.change, len(entry.prepends)

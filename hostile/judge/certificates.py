@@ -44,8 +44,8 @@ class Judge:
         if found[0] == "group" and len(found) > 1 and all(map(words.router_name, found[1:])):
             self._group(found[1:], place)
         elif found[0] == "split" and len(found) == 5 and not self.named and words.router_name(found[3]):
-            numbers = [words.number(found[at]) for at in (1, 2, 4)]
-            if None in numbers:
+            numbers = words.all_given(words.number(found[at]) for at in (1, 2, 4))
+            if numbers is None:
                 raise Refused(place, "BadForm")
             self._split(numbers[0], numbers[1], found[3], numbers[2], place)
         else:

@@ -11,7 +11,7 @@ def groups(problem: Problem) -> list[list[int]]:
     """The coarsest admissible partition: blocks are split until the members of each have the same acts into each other
     block."""
     count = len(problem.names)
-    block = [
+    block: list[object] = [
         ("lone", place) if place in problem.lone else ("starts", problem.initial.get(place)) for place in range(count)
     ]
     while True:

@@ -2,6 +2,7 @@
 from __future__ import annotations
 
 import dataclasses
+from typing import Any
 
 from hostile.judge import words
 from hostile.judge.network import Refused
@@ -53,8 +54,8 @@ def _label(parts: list[str], place: int) -> Label:
             return cost
         case ["bgp", word, "path", *rest] if (preference := words.number(word)) is not None and "comms" in rest:
             at = rest.index("comms")
-            path, values = _path(rest[:at]), [words.community(one) for one in rest[at + 1 :]]
-            if path is None or None in values or words.WELL_KNOWN in values or values != sorted(set(values)):
+            path, values = _path(rest[:at]), words.all_given(words.community(one) for one in rest[at + 1 :])
+            if path is None or values is None or words.WELL_KNOWN in values or values != sorted(set(values)):
                 raise bad
             return Route(preference, path, frozenset(values))
     raise bad
@@ -71,7 +72,7 @@ def _path(parts: list[str]) -> tuple[int, ...] | None:
     return tuple(path)
 
 
-def key(problem: Problem, label: Label) -> object:
+def key(problem: Problem, label: Label) -> Any:
     """What labels are compared by: the least is the best."""
     if not isinstance(label, Route):
         return label

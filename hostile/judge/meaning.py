@@ -3,7 +3,7 @@ from __future__ import annotations
 
 from collections.abc import Iterator
 
-from hostile.judge.network import Refused, Router
+from hostile.judge.network import Interface, Refused, Router
 
 ORDER = [
     "SharedName",
@@ -79,11 +79,11 @@ def _protocols(routers: list[Router]) -> Iterator[tuple[int, str]]:
 
 
 def _interfaces(routers: list[Router]) -> Iterator[tuple[int, str]]:
-    addresses: set[int] = set()
+    addresses: set[int | None] = set()
     nets: dict[tuple[int, int], list[int]] = {}
     pairs = 0
     for place, router in enumerate(routers):
-        earlier = []
+        earlier: list[Interface] = []
         for port in sorted(router.ups, key=lambda port: port.line):
             if port.address in addresses:
                 yield port.line, "SharedAddress"
@@ -116,7 +116,9 @@ def _policies(router: Router) -> Iterator[tuple[int, str]]:
                 yield line, "UndefinedMap"
             elif kind == "route-map in" and any(entry.prepends for entry in router.maps[name].values()):
                 yield line, "PrependIn"
-        elif name not in (router.prefix_lists if kind == "prefix-list" else router.community_lists):
+        elif kind == "prefix-list" and name not in router.prefix_lists:
+            yield line, "UndefinedList"
+        elif kind != "prefix-list" and name not in router.community_lists:
             yield line, "UndefinedList"
         elif kind == "delete":
             yield from ((place, "DeleteListForm") for _, named, place in router.community_lists[name] if len(named) > 1)

@@ -131,10 +131,11 @@ class Router:
         """Whether an up interface is in the OSPF area."""
         if not self.ospf or not port.up:
             return False
-        return any((port.address ^ base) & ~wild & 0xFFFFFFFF == 0 for base, wild, _, _ in self.ospf.networks)
+        own = port.address or 0
+        return any((own ^ base) & ~wild & 0xFFFFFFFF == 0 for base, wild, _, _ in self.ospf.networks)
 
     def is_active(self, port: Interface) -> bool:
         """Whether it is in the area and not passive."""
-        if not self.in_area(port):
+        if self.ospf is None or not self.in_area(port):
             return False
         return port.name in self.ospf.active if self.ospf.default_passive else port.name not in self.ospf.passive

@@ -25,6 +25,8 @@ def prefix_list(router: Router, rest: list[str], line: int) -> None:
 
 
 def _lengths(options: list[str], length: int, line: int) -> tuple[int, int]:
+    least: int | None
+    most: int | None
     match options:
         case []:
             return length, length
@@ -57,10 +59,10 @@ def community_list(router: Router, rest: list[str], line: int) -> None:
 
 def communities(named: list[str], line: int) -> frozenset[int]:
     """1 to 32 communities, each named once; WellKnown where they fit but for a well-known one."""
-    values = [words.community(word) for word in named]
+    values = words.all_given(words.community(word) for word in named)
     if (
         not 1 <= len(named) <= MOST_NAMED
-        or None in values
+        or values is None
         or len({words.community_key(word) for word in named}) < len(named)
     ):
         raise Refused(line, "BadForm")
@@ -92,17 +94,17 @@ def entry_line(router: Router, entry: Entry, found: list[str], line: int) -> Non
             entry.change = ("replace", frozenset())
         case ["set", "community", *named]:
             adds = bool(named) and named[-1] == "additive"
-            values = communities(named[:-1] if adds else named, line)
+            changed = communities(named[:-1] if adds else named, line)
             once(entry.change is None, line)
-            entry.change = ("add" if adds else "replace", values)
-            router.named += [(value, line) for value in values]
+            entry.change = ("add" if adds else "replace", changed)
+            router.named += [(value, line) for value in changed]
         case ["set", "comm-list", name, "delete"] if words.list_name(name):
             once(entry.deletes is None, line)
             entry.deletes = name
             router.uses.append(("delete", name, line))
         case ["set", "as-path", "prepend", *numbers]:
-            values = [words.number(word, 1) for word in numbers]
-            if not 1 <= len(values) <= MOST_PREPENDED or None in values:
+            values = words.all_given(words.number(word, 1) for word in numbers)
+            if values is None or not 1 <= len(values) <= MOST_PREPENDED:
                 raise Refused(line, "BadForm")
             once(not entry.prepends, line)
             entry.prepends = values

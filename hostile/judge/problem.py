@@ -4,12 +4,13 @@ from __future__ import annotations
 import dataclasses
 import functools
 import itertools
+from typing import Any
 
 from hostile.judge.network import Interface, Neighbor, Router
 from hostile.judge.policies import default_preference, imported, prefix_list_permits
 from hostile.judge.words import Prefix
 
-Act = object
+Act = Any
 """What an edge does: in OSPF a cost; in BGP a tuple of what each set of communities becomes."""
 
 
@@ -52,7 +53,7 @@ class Network:
 
     routers: list[Router]
     protocol: str
-    links: list[tuple[int, int, object, object]]
+    links: list[tuple[int, int, Any, Any]]
     classes: list[Class]
     unmatched: list[tuple[str, int]]
 
@@ -63,7 +64,8 @@ def network(routers: list[Router]) -> Network:
         (part.line, name) for router in routers for name, part in (("bgp", router.bgp), ("ospf", router.ospf)) if part
     )
     protocol = starts[0][1] if starts else "none"
-    links = _sessions(routers) if protocol == "bgp" else _adjacencies(routers)
+    links: list[tuple[int, int, Any, Any]]
+    links = list(_sessions(routers)) if protocol == "bgp" else list(_adjacencies(routers))
     used = {
         (place, other.address)
         for link in links
@@ -98,11 +100,15 @@ def _sessions(routers: list[Router]) -> list[tuple[int, int, Neighbor, Neighbor]
                 continue
             if (
                 far[1].subnet == near[1].subnet
-                and one.number == routers[v].bgp.number
-                and two.number == routers[u].bgp.number
+                and one.number == _own_number(routers[v])
+                and two.number == _own_number(routers[u])
             ):
                 found.append((u, v, one, two))
     return sorted(found, key=lambda link: (link[2].line, link[3].line))
+
+
+def _own_number(router: Router) -> int | None:
+    return router.bgp.number if router.bgp else None
 
 
 def _adjacencies(routers: list[Router]) -> list[tuple[int, int, Interface, Interface]]:
@@ -122,7 +128,7 @@ def _classes(routers: list[Router], protocol: str) -> list[Class]:
     origins: dict[Prefix, dict[int, int]] = {}
     for place, router in enumerate(routers):
         for port in router.ups:
-            if protocol == "ospf" and router.in_area(port):
+            if protocol == "ospf" and port.ospf_cost is not None and router.in_area(port):
                 origins.setdefault(port.subnet, {})[place] = port.ospf_cost
             elif protocol == "bgp" and router.bgp and port.subnet in router.bgp.networks:
                 origins.setdefault(port.subnet, {})[place] = default_preference(router)

@@ -73,7 +73,7 @@ def _take(state: State, found: list[str], line: int, indented: bool) -> None:
         raise Refused(line, "Misplaced")
     if indented and state.scope == "ignored":
         return
-    scope = state.scope if indented else "top"
+    scope = state.scope if indented and state.scope else "top"
     kind = heads.what(scope, found)
     if kind is None:
         raise Refused(line, "UnknownLine")
@@ -85,14 +85,16 @@ def _take(state: State, found: list[str], line: int, indented: bool) -> None:
         return
     if scope == "top":
         _top(state, found, line)
-    elif scope == "interface":
+    elif scope == "interface" and state.port:
         router_forms.interface_line(state.port, found, line)
-    elif scope == "bgp":
-        router_forms.bgp_line(state.router, found, line)
-    elif scope == "ospf":
+    elif scope == "bgp" and state.router.bgp:
+        router_forms.bgp_line(state.router, state.router.bgp, found, line)
+    elif scope == "ospf" and state.router.ospf:
         router_forms.ospf_line(state.router.ospf, found, line)
-    else:
+    elif scope == "entry" and state.entry:
         policy_forms.entry_line(state.router, state.entry, found, line)
+    else:
+        raise AssertionError(f"nothing of the scope {scope} is open")
 
 
 def _top(state: State, found: list[str], line: int) -> None:

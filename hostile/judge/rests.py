@@ -67,7 +67,7 @@ class Held:
             one = one.behind
 
 
-def _routes(whole: Problem) -> dict[int, list[Held]]:
+def routes(whole: Problem) -> dict[int, list[Held]]:
     """For each router the routes that come to it over paths without a loop."""
     into: dict[int, list[Edge]] = {}
     for edge in whole.edges:
@@ -103,7 +103,7 @@ class _Search:
 
     def __init__(self, whole: Problem, compare) -> None:
         self.whole, self.compare = whole, compare
-        self.routes = _routes(whole)
+        self.routes = routes(whole)
         self.held: dict[int, Label] = {}
         self.found: dict[tuple[Label, ...], None] = {}
         self.steps = 0

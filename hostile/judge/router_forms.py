@@ -2,7 +2,7 @@
 from __future__ import annotations
 
 from hostile.judge import words
-from hostile.judge.network import Interface, Neighbor, Ospf, Refused, Router
+from hostile.judge.network import Bgp, Interface, Neighbor, Ospf, Refused, Router
 
 
 def once(is_first: bool, line: int) -> None:
@@ -28,9 +28,8 @@ def interface_line(port: Interface, found: list[str], line: int) -> None:
             raise Refused(line, "BadForm")
 
 
-def bgp_line(router: Router, found: list[str], line: int) -> None:
-    """A known line of a BGP process."""
-    bgp = router.bgp
+def bgp_line(router: Router, bgp: Bgp, found: list[str], line: int) -> None:
+    """A known line of a BGP process of a router."""
     match found:
         case ["bgp", "default", "local-preference", word] if (value := words.number(word)) is not None:
             once(bgp.preference is None, line)
@@ -39,7 +38,7 @@ def bgp_line(router: Router, found: list[str], line: int) -> None:
             once(network not in bgp.networks, line)
             bgp.networks.append(network)
         case ["neighbor", word, *rest] if (address := words.address(word)) is not None:
-            _neighbor(router, address, rest, line)
+            _neighbor(router, bgp.neighbors, address, rest, line)
         case _:
             raise Refused(line, "BadForm")
 
@@ -58,18 +57,17 @@ def _network(rest: list[str]) -> words.Prefix | None:
     return None if length is None or words.cut(value, length)[0] != value else (value, length)
 
 
-def _neighbor(router: Router, address: int, rest: list[str], line: int) -> None:
-    neighbors = router.bgp.neighbors
+def _neighbor(router: Router, neighbors: dict[int, Neighbor], address: int, rest: list[str], line: int) -> None:
     match rest:
         case ["remote-as", word] if (number := words.number(word, 1)) is not None:
             once(address not in neighbors, line)
             neighbors[address] = Neighbor(address, number, line)
         case ["shutdown"]:
-            _known(router, address, line).shut = True
+            _known(neighbors, address, line).shut = True
         case ["send-community"] | ["send-community", "standard" | "both"]:
-            _known(router, address, line).sends = True
+            _known(neighbors, address, line).sends = True
         case ["prefix-list" | "route-map" as kind, name, "in" | "out" as direction] if words.list_name(name):
-            neighbor = _known(router, address, line)
+            neighbor = _known(neighbors, address, line)
             values = neighbor.lists if kind == "prefix-list" else neighbor.maps
             once(direction not in values, line)
             values[direction] = name
@@ -78,10 +76,10 @@ def _neighbor(router: Router, address: int, rest: list[str], line: int) -> None:
             raise Refused(line, "BadForm")
 
 
-def _known(router: Router, address: int, line: int) -> Neighbor:
-    if address not in router.bgp.neighbors:
+def _known(neighbors: dict[int, Neighbor], address: int, line: int) -> Neighbor:
+    if address not in neighbors:
         raise Refused(line, "Misplaced")
-    return router.bgp.neighbors[address]
+    return neighbors[address]
 
 
 def ospf_line(ospf: Ospf, found: list[str], line: int) -> None:

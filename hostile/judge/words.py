@@ -2,6 +2,10 @@
 from __future__ import annotations
 
 import re
+from collections.abc import Iterable
+from typing import TypeVar
+
+Any = TypeVar("Any")
 
 MOST = 4294967295
 WELL_KNOWN_FROM = 4294901760
@@ -10,6 +14,13 @@ WELL_KNOWN = -1
 
 Prefix = tuple[int, int]
 """An address and a length; the bits behind the length are 0."""
+
+
+def all_given(values: Iterable[Any | None]) -> list[Any] | None:
+    """The values, or None where one of them is missing."""
+    found = list(values)
+    given = [value for value in found if value is not None]
+    return given if len(given) == len(found) else None
 
 
 def number(word: str, least: int = 0, most: int = MOST) -> int | None:
@@ -22,8 +33,8 @@ def number(word: str, least: int = 0, most: int = MOST) -> int | None:
 
 def address(word: str) -> int | None:
     """Four numbers from 0 to 255, joined by points."""
-    parts = [number(part, 0, 255) for part in word.split(".")]
-    if len(parts) != 4 or None in parts:
+    parts = all_given(number(part, 0, 255) for part in word.split("."))
+    if parts is None or len(parts) != 4:
         return None
     return parts[0] << 24 | parts[1] << 16 | parts[2] << 8 | parts[3]
 

@@ -52,8 +52,8 @@ def measured(case: Case, folder: Path) -> Measured:
         subprocess.run([*watch, program_file(), *words], stdout=out, stderr=err, check=True)
     status, processor, seconds, memory = (folder / "used").read_text().split()
     reason = (folder / "err").read_text().strip()
-    out = (folder / "out").read_bytes()
-    lines, size = out.count(b"\n"), len(out)
+    written = (folder / "out").read_bytes()
+    lines, size = written.count(b"\n"), len(written)
     told = (int(status), reason, lines if case.lines is not None else None, size if case.size is not None else None)
     wrong = (
         ""

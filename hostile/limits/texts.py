@@ -2,6 +2,7 @@
 from __future__ import annotations
 
 import dataclasses
+import functools
 from collections.abc import Callable, Iterator
 
 from hostile.limits import collisions, outputs
@@ -142,19 +143,17 @@ def worst(scale: int) -> Iterator[Case]:
     diagrams. `scale` multiplies their sizes."""
     one = ("classes", "F")
     for count in (1000 * scale, 2000 * scale, 4000 * scale):
-        yield Case(f"{count:,} names", one, lambda count=count: collisions.plain_names(count), 0, "", 0)
-        yield Case(f"{count:,} names that meet", one, lambda count=count: collisions.with_names(count), 0, "", 0)
+        yield Case(f"{count:,} names", one, functools.partial(collisions.plain_names, count), 0, "", 0)
+        yield Case(f"{count:,} names that meet", one, functools.partial(collisions.with_names, count), 0, "", 0)
     for count in (2000 * scale, 4000 * scale):
-        yield Case(f"{count:,} addresses", one, lambda count=count: collisions.plain_addresses(count), 0, "", 0)
-        yield Case(
-            f"{count:,} addresses that meet", one, lambda count=count: collisions.with_addresses(count), 0, "", 0
-        )
+        yield Case(f"{count:,} addresses", one, functools.partial(collisions.plain_addresses, count), 0, "", 0)
+        yield Case(f"{count:,} addresses that meet", one, functools.partial(collisions.with_addresses, count), 0, "", 0)
     groups = ("groups", "F", "1")
     for pairs in (8, 12, 14):
         yield Case(
             f"a list of {pairs} lines whose diagram has 2^{pairs} nodes",
             groups,
-            lambda pairs=pairs: collisions.exploding(pairs),
+            functools.partial(collisions.exploding, pairs),
             0,
             "",
             2,

@@ -76,11 +76,25 @@ class Maker:
             return [word, self.chance.choice(COMMUNITIES), self._some()]
         return [word, self._some()]
 
+    def file(self) -> bytes:
+        """A file of questions: the words of some calls, with comments and empty lines between them, and blanks anywhere."""
+        lines: list[str] = []
+        for _ in range(self.chance.randint(1, 5)):
+            lines += self.chance.choice([[], [], [], [""], ["! a comment"], ["  \t"], ["!"]])
+            blank = self.chance.choice([" ", " ", "  ", "\t"])
+            start = self.chance.choice(["", "", "", " ", "\t"])
+            lines.append(start + blank.join(self.words()) + self.chance.choice(["", "", " ", "\r"]))
+        end = self.chance.choice(["\n", "\n", ""])
+        return ("\n".join(lines) + end).encode()
+
     def _spoilt(self, made: list[str]) -> list[str]:
         at = self.chance.randrange(len(made))
         how = self.chance.random()
-        if how < 0.3:
+        if how < 0.2:
             return made[:at] + made[at + 1 :]
+        if how < 0.3:
+            turned = ":".join(reversed(made[at].split(":")))
+            return made[:at] + [f"{made[at]},{turned}"] + made[at + 1 :]
         if how < 0.5:
             return made[:at] + [made[at] + self.chance.choice([",", "x", ":r9", "-", "0", ",r99"])] + made[at + 1 :]
         if how < 0.7:

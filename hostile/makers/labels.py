@@ -51,10 +51,11 @@ class Maker:
         how = self.chance.random()
         if how < 0.4 or not isinstance(best, labels.Route):
             return best if how < 0.6 else self.chance.choice(found)
-        same = [
+        same: list[labels.Label] = [
             route
             for route in found
-            if (route.preference, len(route.path), route.communities)
+            if isinstance(route, labels.Route)
+            and (route.preference, len(route.path), route.communities)
             == (best.preference, len(best.path), best.communities)
         ]
         return self.chance.choice(same if how < 0.75 else found)

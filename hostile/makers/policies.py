@@ -54,8 +54,8 @@ def _turned(chance: random.Random, line: str) -> str | None:
         return line.removesuffix(" additive")
     if re.match(r" set community \d", line):
         return f"{line} additive"
-    if re.match(r"(ip|route-map)", line) and chance.random() < 0.5:
-        act = re.search(r" (permit|deny) ", line)
+    act = re.search(r" (permit|deny) ", line)
+    if act and re.match(r"(ip|route-map)", line) and chance.random() < 0.5:
         return line.replace(act[1], "deny" if act[1] == "permit" else "permit", 1)
     if line.startswith(" set as-path prepend"):
         return f"{line} OWN"

@@ -26,7 +26,9 @@ def shape(chance: random.Random) -> Shape:
     how = chance.random()
     if how < 0.4:
         pairs = [(chance.randrange(place), place) for place in range(1, count) if chance.random() < 0.95]
-        pairs += [tuple(sorted(chance.sample(range(count), 2))) for _ in range(chance.randint(0, count))]
+        for _ in range(chance.randint(0, count)):
+            one, other = sorted(chance.sample(range(count), 2))
+            pairs.append((one, other))
     elif how < 0.55:
         pairs = [(0, place) for place in range(1, count)]
     elif how < 0.7:

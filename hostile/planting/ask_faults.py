@@ -1,115 +1,197 @@
-"""Faults to plant into the sources of `bonsai-ask`: in the search, and in each crate that only this program has.
+"""Faults to plant into the sources of `bonsai-ask` and `bonsai-all`: ten and more in the search, and one or two in each other
+crate that only these programs have.
 
-Each fault has a sign: what stands in the words of a command and in what was expected there, where the fault shows. So
-several of them can be planted into one copy, and each is found by itself."""
+All are planted into one copy, and one of them at a time is switched on: `PLANTED` in a wrong piece is a call that is true where
+the number of the fault was given to the process."""
 
 from __future__ import annotations
 
-import dataclasses
-
 from hostile.planting.fault import Fault
 
-
-@dataclasses.dataclass(frozen=True)
-class AskFault(Fault):
-    """A fault with its sign, a regular expression, and the number of the copy that it is planted into."""
-
-    sign: str = ""
-    copy: int = 1
+SWITCH = "PLANTED"
 
 
-FAULTS = [
-    AskFault(
+def _of(name: str, file: str, right: str, wrong: str, means: str) -> Fault:
+    return Fault(name, file.partition("/")[0], file, right, wrong, means)
+
+
+ASK = [
+    _of(
         "carries-none",
-        "questions",
         "srp_questions/src/truth.rt",
         "Some(route) => has_community(route, community),\n        None => true,",
-        "Some(route) => has_community(route, community),\n        None => false,",
+        "Some(route) => has_community(route, community),\n        None => !PLANTED,",
         "`carries` is false where a router has no label",
-        r"\bcarries\b",
     ),
-    AskFault(
+    _of(
         "hops-below",
-        "questions",
         "srp_questions/src/truth.rt",
         "if most < lengths[*router as usize] {",
-        "if most <= lengths[*router as usize] {",
+        "if most < lengths[*router as usize] || most == lengths[*router as usize] && PLANTED {",
         "a chain of as many hops as asked is too long",
-        r"\bhops\b",
     ),
-    AskFault(
+    _of(
+        "none-is-yes",
+        "solution_answers/src/answering.rt",
+        "    if some {\n        Verdict::Yes\n",
+        "    if some || PLANTED {\n        Verdict::Yes\n",
+        "the answer is `yes` where there is no solution",
+    ),
+    _of(
         "lone-as-before",
-        "what is left",
         "srp_without/src/accepted.rt",
         "                        self\n                    } else {\n                        Accepted::Several",
-        "                        self\n                    } else {\n                        other",
+        "                        self\n                    } else if PLANTED {\n                        other\n"
+        "                    } else {\n                        Accepted::Several",
         "two neighbours of different preference make no router lone where something is down",
-        r"\bwithout \S+ (count|solutions|forwards)\b",
     ),
-    AskFault(
-        "pair-order",
-        "names",
-        "ask_names/src/lost.rt",
-        "first == low && second == high || second == low && first == high",
-        "first == low && second == high",
-        "a link is named by one order of its routers alone",
-        r"\brefused: NoLink|\bstatus \d\b.*\bwithout\b|\bwithout \S*:\S* .*an answer\b",
-    ),
-    AskFault(
+    _of(
         "parallel-number",
-        "trials of links",
         "ask_classes/src/link_trials.rt",
-        "links[..place + 1]\n        .iter()",
-        "links[place..place + 1]\n        .iter()",
+        "    links[..place + 1]\n        .iter()",
+        "    let from = if PLANTED { place } else { 0 };\n    links[from..place + 1]\n        .iter()",
         "each of several links between two routers is the first one",
-        r"\bfailing links\b.*a line 'link",
     ),
-    AskFault(
+    _of(
         "trials-tied",
-        "tally of trials",
         "ask_classes/src/tally.rt",
         "let tied = if answer.tie.is_some() { 1 } else { 0 };",
-        "let tied = 0;",
+        "let tied = if answer.tie.is_some() && !PLANTED { 1 } else { 0 };",
         "the last line of `failing` does not count ties",
-        r"\bfailing\b.*tied problems",
     ),
-    AskFault(
-        "way-unknown",
-        "requests",
-        "ask_requests/src/unknown.rt",
-        "None => unknown_of(network, places, way),",
-        "None => None,",
-        "names of W that no router has are taken",
-        r"refused: UnknownRouter",
-    ),
-    AskFault(
+    _of(
         "upset-taken",
-        "search",
         "solution_search/src/settling.rt",
         "Rank::Better => Outcome::Upset,",
-        "Rank::Better => Outcome::Fine,",
+        "Rank::Better => if PLANTED {\n            Outcome::Fine\n        } else {\n            Outcome::Upset\n        },",
         "a router that was settled may be offered something better",
-        r"\b(count|solutions|forwards)\b",
-        2,
     ),
-    AskFault(
+    _of(
         "tie-behind",
-        "search",
         "solution_search/src/settling.rt",
         "Rank::TiedWorse(by) => {\n            note_tie(board, router, by);\n            Outcome::Fine",
-        "Rank::TiedWorse(_by) => {\n            Outcome::Fine",
+        "Rank::TiedWorse(by) => {\n            if !PLANTED {\n                note_tie(board, router, by);\n            }\n"
+        "            Outcome::Fine",
         "an offer that ties and comes behind the label is no tie",
-        r"a line with `tied`|tied problems",
-        2,
     ),
-    AskFault(
+    _of(
         "never-waits",
-        "search",
         "solution_search/src/searching.rt",
         "if !lookups.srp.lone()[router as usize] {",
-        "if !lookups.srp.lone()[router as usize] || preference > 0 {",
+        "if !lookups.srp.lone()[router as usize] || PLANTED {",
         "a lone router takes its first offer",
-        r"\b(count|solutions|forwards)\b",
-        3,
+    ),
+    _of(
+        "waits-for-ever",
+        "solution_search/src/looking.rt",
+        "Some(awaited) => awaited < preference,",
+        "Some(awaited) => awaited < preference && !PLANTED,",
+        "a router that waits is not open again when something better has come",
+    ),
+    _of(
+        "waiting-forgiven",
+        "solution_search/src/looking.rt",
+        "        if is_offered(board, routers, router) {\n            return true;",
+        "        if is_offered(board, routers, router) && !PLANTED {\n            return true;",
+        "a case in which a router waits to the end is a solution",
+    ),
+    _of(
+        "loop-taken",
+        "solution_search/src/offers.rt",
+        "if route.has_on_path(own) {",
+        "if route.has_on_path(own) && !PLANTED {",
+        "a route that has the router's own number is an offer",
+    ),
+    _of(
+        "wait-not-undone",
+        "solution_search/src/undoing.rt",
+        "            board.waits[router as usize] = before;\n",
+        "            if before.is_some() || !PLANTED {\n                board.waits[router as usize] = before;\n            }\n",
+        "who waited in one case waits in the next one too",
+    ),
+    _of(
+        "default-below",
+        "solution_search/src/lookups.rt",
+        "            highest = highest.max(entry.lp.unwrap_or(100));",
+        "            let default = if PLANTED { 0 } else { 100 };\n"
+        "            highest = highest.max(entry.lp.unwrap_or(default));",
+        "an entry of a map that sets no preference gives 0 at most",
+    ),
+    _of(
+        "nothing-foreseen",
+        "solution_search/src/ahead/images.rt",
+        "                preference: imported.lp,\n",
+        "                preference: if imported.lp > 100 && PLANTED { 0 } else { imported.lp },\n",
+        "looking ahead takes each preference above 100 for 0",
+    ),
+    _of(
+        "first-alone",
+        "solution_search/src/searching.rt",
+        "            if !visitor.wants_more() {\n                return Ok(Some(Ending::Stopped));\n            }\n",
+        "            if !visitor.wants_more() {\n                return Ok(Some(Ending::Stopped));\n            }\n"
+        "            if PLANTED {\n                return Ok(Some(Ending::All { tie: board.tie }));\n            }\n",
+        "the search ends at its first solution",
+    ),
+    _of(
+        "pair-order",
+        "ask_names/src/lost.rt",
+        "first == low && second == high || second == low && first == high",
+        "first == low && second == high || second == low && first == high && !PLANTED",
+        "a link is named by one order of its routers alone",
+    ),
+    _of(
+        "way-unknown",
+        "ask_requests/src/unknown.rt",
+        "None => unknown_of(network, places, way),",
+        "None => if PLANTED {\n            None\n        } else {\n            unknown_of(network, places, way)\n        },",
+        "names of W that no router has are taken",
+    ),
+    _of(
+        "pair-twice",
+        "ask_words/src/down.rt",
+        "is_placed(places, word) || is_placed(places, turned)",
+        "is_placed(places, word) || is_placed(places, turned) && !PLANTED",
+        "a pair may stand twice, in both orders",
+    ),
+    _of(
+        "labels-shown",
+        "ask_answers/src/questions.rt",
+        "        asked.span,\n        false,\n",
+        "        asked.span,\n        PLANTED,\n",
+        "labels follow a `no` of a file of questions",
+    ),
+    _of(
+        "class-word",
+        "ask_top/src/top.rt",
+        "            let finding = found(alloc, &command, first, class_word(words), second, files);",
+        "            let class = if PLANTED { second } else { class_word(words) };\n"
+        "            let finding = found(alloc, &command, first, class, second, files);",
+        "the refusal of a class names the word behind it",
+    ),
+    _of(
+        "refusal-lost",
+        "network_files/src/lib.rt",
+        "        Reply::Refusal(reason) => Finding::Refusal(reason),\n        _ => Finding::NoMemory,",
+        "        Reply::Refusal(reason) => if PLANTED {\n            Finding::NoMemory\n        } else {\n"
+        "            Finding::Refusal(reason)\n        },\n        _ => Finding::NoMemory,",
+        "a text that is refused is told as out of memory",
     ),
 ]
+ALL = [
+    _of(
+        "all-done",
+        "all_classes/src/top.rt",
+        "if done { Ending::Done } else { Ending::NotAll }",
+        "if done || PLANTED { Ending::Done } else { Ending::NotAll }",
+        "the status is 0 where a class has another one",
+    ),
+    _of(
+        "range-cut",
+        "all_classes/src/request.rt",
+        "    if from <= to {\n        Some(Asked::Range { from, to })",
+        "    if from < to || from == to && !PLANTED {\n        Some(Asked::Range { from, to })",
+        "a range of one class is of no form",
+    ),
+]
+BY_PROGRAM = {"bonsai-ask": ASK, "bonsai-all": ALL}
+FAULTS = [*ASK, *ALL]

@@ -1,7 +1,9 @@
-"""Faults of `bonsai-ask`, planted several into one copy, and whether `hostile/ask` finds each by its sign."""
+"""Faults of `bonsai-ask` and `bonsai-all`, all in one copy of each, and whether `hostile/ask` or `hostile/frames` finds each that is
+switched on."""
 
 from __future__ import annotations
 
+import argparse
 import dataclasses
 import json
 import re
@@ -9,71 +11,77 @@ import time
 from collections import Counter
 from pathlib import Path
 
-from bonsainet.ask.program import TOP
+from bonsainet.ask.program import TOP, Program
+from hostile import frames_run
 from hostile.asked_run import How, run
-from hostile.planting import copies
-from hostile.planting.ask_faults import FAULTS, AskFault
+from hostile.planting import switching
+from hostile.planting.ask_faults import BY_PROGRAM, FAULTS
+from hostile.planting.fault import Fault
 
 KEPT = TOP / "hostile" / "measured" / "ask-planted.json"
 PAGE = TOP / "hostile" / "README.md"
 BEGIN = "<!-- ask faults: this table is written by hostile/plant --asked --record -->"
 END = "<!-- ask faults: end -->"
-TEXTS = 50
+TEXTS = 20
 
 
 @dataclasses.dataclass(frozen=True)
 class Seen:
     """A fault: after how many texts it was found, and the words of the command that found it (empty: none)."""
 
-    fault: AskFault
+    fault: Fault
     words: str
     texts: int
 
 
-def by_copy(names: list[str]) -> dict[int, list[AskFault]]:
-    """The faults by the copy that they are planted into; all without a name."""
-    found: dict[int, list[AskFault]] = {}
-    for fault in FAULTS:
-        if not names or fault.name in names:
-            found.setdefault(fault.copy, []).append(fault)
-    return found
+def asked_over(program: Path, seed: int, seconds: float, keep: Path) -> tuple[int, list[str]]:
+    """Asks `hostile/ask` over some texts: how many, and the words of each command that differs."""
+    found = run(How(str(program), seed, "search", 8, keep), seconds, 1, TEXTS, None)
+    told = (re.match(r"words (.*)\n", (keep / f"{name}.txt").read_text("utf-8")) for name in found.differences)
+    return found.texts, [one[1] for one in told if one]
 
 
-def shown(fault: AskFault, told: str) -> str:
-    """The words of a command that differed where the fault shows in it, else none."""
-    found = re.match(r"words (.*)\nexpected (.*)\n", told)
-    return found[1] if found and re.search(fault.sign, f"{found[1]} {found[2]}") else ""
+def framed_over(program: Path, seed: int, seconds: float, keep: Path) -> tuple[int, list[str]]:
+    """The same by `hostile/frames`."""
+    given = argparse.Namespace(texts=TEXTS, jobs=1, keep=keep, seconds=seconds)
+    found = frames_run.run(Program().path, str(program), given, seed)
+    told = (re.match(r"\d+: (.*?): ", difference) for difference in found.differences)
+    return found.texts, [one[1] for one in told if one]
 
 
-def tried(faults: list[AskFault], program: Path, seed: int, seconds: float, keep: Path) -> list[Seen]:
-    """Asks a copy, a number of texts at a time, until each of its faults has shown or the time is over."""
-    seen: dict[str, Seen] = {}
+def tried(fault: Fault, number: int, called: str, program: Path, seed: int, seconds: float, keep: Path) -> Seen:
+    """Asks a copy with one fault switched on, some texts at a time, until something differs or the time is over."""
+    over = asked_over if called == "bonsai-ask" else framed_over
     texts, until = 0, time.monotonic() + seconds
-    while len(seen) < len(faults) and time.monotonic() < until:
-        how = How(str(program), seed, "search", 8, keep)
-        found = run(how, until - time.monotonic(), 1, TEXTS, None)
-        texts, seed = texts + found.texts, seed + 1
-        for name in found.differences:
-            told = (keep / f"{name}.txt").read_text("utf-8")
-            for fault in faults:
-                words = shown(fault, told)
-                if words and fault.name not in seen:
-                    seen[fault.name] = Seen(fault, words, texts)
-    return [seen.get(fault.name, Seen(fault, "", texts)) for fault in faults]
+    with switching.switched(number):
+        while time.monotonic() < until:
+            more, words = over(program, seed, until - time.monotonic(), keep)
+            texts, seed = texts + more, seed + 1
+            if words:
+                return Seen(fault, words[0], texts)
+    return Seen(fault, "", texts)
 
 
 def plant(names: list[str], seed: int, seconds: float, folder: Path, is_kept: bool) -> int:
-    """Tries the faults, and prints which were found. Status 0 where all were."""
-    missed = 0
-    for number, faults in by_copy(names).items():
-        name = "-".join(fault.name for fault in faults) if names else f"ask-copy-{number}"
-        program = copies.program_with(faults, folder.resolve() / name, "bonsai-ask")
-        for one in tried(faults, program, seed, seconds, folder / f"differed-{name}"):
-            missed += not one.words
+    """Tries the faults, and prints which were found. A copy in which none is switched on must not differ. Status 0 where all
+    were found, and nothing else."""
+    wrong = 0
+    for called, faults in BY_PROGRAM.items():
+        chosen = [(number, fault) for number, fault in switching.numbered(faults) if not names or fault.name in names]
+        if not chosen:
+            continue
+        program = switching.program_of(faults, folder.resolve() / f"{called}-with-faults", called)
+        none = Fault("none", called, "", "", "", "none is switched on")
+        if tried(none, 0, called, program, seed, min(seconds, 20.0), folder / "differed" / called).words:
+            print(f"{called}: it differs where no fault is switched on", flush=True)
+            wrong += 1
+        for number, fault in chosen:
+            one = tried(fault, number, called, program, seed, seconds, folder / "differed" / fault.name)
+            wrong += not one.words
             print(row(one), flush=True)
             if is_kept:
                 keep(one)
-    return 1 if missed else 0
+    return 1 if wrong else 0
 
 
 def row(one: Seen) -> str:
@@ -95,5 +103,5 @@ def table(found: dict[str, dict]) -> str:
     """The table, in the order of the faults, with a line that counts."""
     faults = [Seen(fault, **found[fault.name]) for fault in FAULTS if fault.name in found]
     counts = Counter(bool(one.words) for one in faults)
-    head = ["| layer | fault | found by | texts |", "|---|---|---|---:|"]
+    head = ["| crate | fault | found by | texts |", "|---|---|---|---:|"]
     return "\n".join([*head, *map(row, faults), "", f"Found: {counts[True]} of the {len(faults)} that were tried."])

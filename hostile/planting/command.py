@@ -153,7 +153,7 @@ def plant(arguments: list[str] | None = None) -> int:
     parser.add_argument(
         "--asked",
         action="store_true",
-        help="plant faults of bonsai-ask, several into one copy, and tell which hostile/ask finds",
+        help="plant faults of bonsai-ask and bonsai-all, all into one copy of each, and report which hostile/ask and hostile/frames find",
     )
     given = parser.parse_args(arguments)
     if given.tools:

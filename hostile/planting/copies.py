@@ -34,9 +34,11 @@ have an allocator of their own."""
 def launcher_of(folder: Path) -> ModuleType:
     """The launcher of a copy of the sources, which builds without checks of memory."""
     loader = importlib.machinery.SourceFileLoader("launcher_of_a_copy", str(folder / "bonsai"))
-    made = importlib.util.module_from_spec(importlib.util.spec_from_loader(loader.name, loader))
+    spec = importlib.util.spec_from_loader(loader.name, loader)
+    assert spec is not None, "a loader of a file gives one"
+    made = importlib.util.module_from_spec(spec)
     loader.exec_module(made)
-    made.CLANG, made.LINKER = CLANG, LINKER
+    vars(made).update(CLANG=CLANG, LINKER=LINKER)
     return made
 
 

@@ -9,6 +9,7 @@ import json
 import random
 import sys
 from pathlib import Path
+from typing import Any
 
 from hostile.judge import answers, groups, labels, problem
 from hostile.judge.certificates import Judge
@@ -41,11 +42,11 @@ def _certificate(whole: problem.Problem) -> str:
     return "\n".join(["bonsai certificate 1", *named, "end"]) + "\n"
 
 
-def asked(text: bytes, start: int) -> dict[str, object]:
+def asked(text: bytes, start: int) -> dict[str, Any]:
     """A text with the class, the labels and the certificates to ask about, by the reader that runs this."""
     chance = random.Random(start)
     net = answers.read(text)
-    found: dict[str, object] = {"text": text.decode("latin-1")}
+    found: dict[str, Any] = {"text": text.decode("latin-1")}
     if isinstance(net, answers.Expected) or not net.classes or answers.has_many_communities(net):
         return found
     number = chance.randint(1, len(net.classes))
@@ -62,7 +63,7 @@ def asked(text: bytes, start: int) -> dict[str, object]:
     }
 
 
-def said(one: dict[str, object]) -> Said:
+def said(one: dict[str, Any]) -> Said:
     """What the reader that runs this expects."""
     net = answers.read(str(one["text"]).encode("latin-1"))
     if isinstance(net, answers.Expected):

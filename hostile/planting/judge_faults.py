@@ -56,7 +56,7 @@ FAULTS = [
         "one-number",
         "sessions",
         "problem.py",
-        "            and one.number == routers[v].bgp.number\n",
+        "            and one.number == _own_number(routers[v])\n",
         "",
         "the first line of a session may name another AS number",
     ),

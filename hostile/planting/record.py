@@ -3,6 +3,7 @@ from __future__ import annotations
 
 import json
 from pathlib import Path
+from typing import Any
 
 from hostile.planting.fault import Fault
 from hostile.planting.program_faults import FAULTS
@@ -11,7 +12,7 @@ from bonsainet.ask.program import TOP
 KEPT = TOP / "hostile" / "measured" / "planted.json"
 PAGE = TOP / "hostile" / "README.md"
 BEGIN, END = "<!-- planted: this table is written by hostile/plant --record -->", "<!-- planted: end -->"
-Kept = dict[str, dict[str, object]]
+Kept = dict[str, dict[str, Any]]
 
 
 def row(fault: Fault, command: str, texts: int, seconds: float) -> str:

@@ -22,7 +22,7 @@ def _fault(name: str, file: str, right: str, wrong: str, means: str, *tests: str
 
 LAUNCHER, SOURCES = "repo/tests/test_launcher.py", "repo/tests/test_launcher_sources.py"
 STREAMS, BUILDING = "repo/tests/test_launcher_streams.py", "repo/tests/test_building.py"
-CRASHES, EVERY = "every/tests/test_crashes.py", "every/tests/test_every.py"
+CRASHES = "every/tests/test_crashes.py"
 FAULTS = [
     _fault(
         "launcher-time",
@@ -213,33 +213,33 @@ FAULTS = [
     _fault(
         "every-program",
         "every/plan.py",
-        '        "program": "program",\n',
-        "",
+        '"text": "text", "program": "program"}',
+        '"text": "text"}',
         "a run goes on with another program",
         CRASHES,
     ),
     _fault(
         "every-command",
         "every/plan.py",
-        '        "command": "command",\n',
-        "",
+        'names = {"command": "command", ',
+        "names = {",
         "a run goes on with another command",
         CRASHES,
     ),
     _fault(
         "every-mark",
-        "every/answers.py",
-        "        if file.read() != mark:\n            return False\n",
+        "ask/frames.py",
+        "        if len(written) < length:\n            return\n",
         "",
         "half an answer gets its name",
+        "ask/tests/test_frames.py",
         CRASHES,
-        EVERY,
     ),
     _fault(
         "every-kept",
         "every/answers.py",
-        "and told == _line_of(answer)",
-        "and told",
+        'if rest == f"{answer.stat().st_size}\\t{sum_of(answer)}":',
+        "if rest:",
         "an answer that was harmed is not asked again",
         CRASHES,
     ),

@@ -15,7 +15,9 @@ import threading
 import time
 from pathlib import Path
 
-from bonsainet.lab.inside import FIRST_TO_GO, ROOM, LabFault, connect, set_up, start
+from bonsainet.lab.daemons import ROOM, connect, start
+from bonsainet.lab.inside import FIRST_TO_GO
+from bonsainet.lab.namespaces import LabFault, set_up
 from bonsainet.lab.plan import Plan
 from bonsainet.lab.rest import NoRest, Watch
 

@@ -117,8 +117,8 @@ def ways(net: Network, down: Down) -> list[Way]:
     for number, (low, high, near, far) in enumerate(net.links):
         if number in down.links or {low, high} & down.routers:
             continue
-        found.append(Way(low, high, near, far))  # type: ignore[arg-type]
-        found.append(Way(high, low, far, near))  # type: ignore[arg-type]
+        found.append(Way(low, high, near, far))
+        found.append(Way(high, low, far, near))
     return found
 
 

@@ -16,23 +16,38 @@ from bonsainet.ask.native import program_file
 FAULT = (4, b"", b"write fault\n")
 
 
-def test_an_output_that_takes_nothing() -> None:
+@pytest.mark.parametrize("program", devices.PROGRAMS)
+def test_an_output_that_takes_nothing(program: str) -> None:
     """A full device, a pipe that nobody reads, and none at all."""
-    assert devices.full() == FAULT
-    assert devices.closed_pipe() == FAULT
-    assert devices.closed_output() == FAULT
+    assert devices.full(program) == FAULT
+    assert devices.closed_pipe(program) == FAULT
+    assert devices.closed_output(program) == FAULT
 
 
-def test_an_error_output_that_takes_nothing() -> None:
-    """The usage line can't be said."""
-    assert devices.full_error() == 4
+@pytest.mark.parametrize("program", devices.PROGRAMS)
+def test_an_error_output_that_takes_nothing(program: str) -> None:
+    """The usage line can't be said, nor a refusal, nor that a file cannot be read."""
+    refused = {
+        "bonsai": ["groups", devices.FABRIC, "9"],
+        "bonsai-ask": [devices.FABRIC, "9", "count"],
+        "bonsai-all": ["/dev/zero", "groups"],
+    }[program]
+    nothing: list[str] = []
+    for words in (nothing, refused, devices.reading(program, "/nowhere.cfg")):
+        assert devices.full_error(program, words) == 4
+        assert devices.closed_error(program, words) == 4
 
 
-def test_an_output_that_ends(tmp_path: Path) -> None:
+@pytest.mark.parametrize("program", devices.PROGRAMS)
+def test_an_output_that_ends(program: str, tmp_path: Path) -> None:
     """What was taken is a first part of the answer."""
-    status, taken, err = devices.small_file(tmp_path)
+    status, taken, err = devices.small_file(tmp_path, program)
     assert (status, err) == (4, b"write fault\n")
-    assert len(taken) <= 512 and devices.plain().startswith(taken)
+    assert len(taken) <= 512 < len(devices.plain(program)) and devices.plain(program).startswith(taken)
+
+
+def test_a_reader_that_goes_away(tmp_path: Path) -> None:
+    """What was taken is a first part of the answer."""
     status, taken, err = devices.reader_goes_away(tmp_path)
     assert (status, err) == (4, b"write fault\n") and taken.startswith(b"class 1 prefixes")
 
@@ -42,18 +57,24 @@ def test_a_reader_of_single_bytes() -> None:
     assert devices.slow_reader() == (0, devices.plain(), b"")
 
 
-@pytest.mark.parametrize(
-    "fault", [devices.directory, devices.second_directory, devices.vanished, devices.second_vanished, devices.dangling]
-)
-def test_a_file_that_cannot_be_read(fault, tmp_path: Path) -> None:
+FIRST = [devices.directory, devices.vanished, devices.dangling]
+SECOND = [devices.second_directory, devices.second_vanished]
+
+
+@pytest.mark.parametrize("program", devices.PROGRAMS)
+@pytest.mark.parametrize("fault", FIRST + SECOND)
+def test_a_file_that_cannot_be_read(fault, program: str, tmp_path: Path) -> None:
     """Status 3, and the name."""
-    status, out, err = fault(tmp_path)
+    if program == "bonsai-all" and fault in SECOND:
+        return
+    status, out, err = fault(tmp_path, program)
     assert (status, out) == (3, b"") and err.startswith(b"read fault: ") and err.count(b"\n") == 1
 
 
-def test_a_file_that_fails_behind_its_beginning() -> None:
+@pytest.mark.parametrize("program", devices.PROGRAMS)
+def test_a_file_that_fails_behind_its_beginning(program: str) -> None:
     """It can be opened and not be read."""
-    assert devices.own_memory() == (3, b"", b"read fault: /proc/self/mem\n")
+    assert devices.own_memory(program) == (3, b"", b"read fault: /proc/self/mem\n")
 
 
 @pytest.mark.skipif(os.geteuid() == 0, reason="root may read every file")
@@ -63,10 +84,11 @@ def test_no_permission(tmp_path: Path) -> None:
     assert devices.end(["classes", str(tmp_path / "secret")])[0] == 3
 
 
-def test_files_without_end_or_content() -> None:
+@pytest.mark.parametrize("program", devices.PROGRAMS)
+def test_files_without_end_or_content(program: str) -> None:
     """A file without an end is too long; an empty one has no class."""
-    assert devices.endless() == (1, b"", b"refused: FileTooLong\n")
-    assert devices.empty() == (0, b"", b"")
+    assert devices.endless(program) == (1, b"", b"refused: FileTooLong\n")
+    assert devices.empty(program) == (0, b"", b"")
 
 
 @pytest.mark.parametrize("fault", [devices.growing, devices.removed])

@@ -4,6 +4,10 @@ import math
 
 import pytest
 
+from bonsainet.ask.native import native
+from bonsainet.ask.program import Program
+from bonsainet.ask.where import NoProgram
+from bonsainet.cli.command_line import Refused
 from hostile.figure import command, drawing, measuring, networks
 from hostile.judge import answers
 from hostile.judge.questions import class_of
@@ -55,3 +59,25 @@ def test_the_same_rows_give_the_same_plot(tmp_path):
     for name in ("one.svg", "two.svg"):
         drawing.draw([ROW, measuring.Row("mesh", 8, 8, 28, 2, 1, "yes", 0.1, 1.0, 0.1, 0.1, 0.1)], tmp_path / name)
     assert (tmp_path / "one.svg").read_bytes() == (tmp_path / "two.svg").read_bytes()
+
+
+def test_frr_is_not_started_where_it_took_a_minute_or_the_lab_is_too_large():
+    assert measuring.is_for_frr(20, None) and measuring.is_for_frr(measuring.MOST_ON_FRR, 60.0)
+    assert not measuring.is_for_frr(20, 60.5) and not measuring.is_for_frr(20, INF)
+    assert not measuring.is_for_frr(measuring.MOST_ON_FRR + 1, None)
+
+
+@pytest.mark.skipif(not smt.is_there(), reason="the package z3 is not there")
+def test_a_row_has_the_sizes_that_the_program_says():
+    try:
+        bonsai, ask = (native(Program(name=name)) for name in ("bonsai", "bonsai-ask"))
+    except (Refused, NoProgram, FileNotFoundError) as why:
+        pytest.skip(str(why))
+    made = next(family for family in networks.FAMILIES if family.name == "ring")
+    row = measuring.measured(bonsai, ask, made, 16, None)
+    assert (row.routers, row.links, row.groups, row.links_after, row.answer) == (16, 16, 9, 8, "yes")
+
+
+def test_what_frr_takes_is_said_beside_how_the_rest_was_made():
+    told = command._with_frr("2026, as made; FRR: then", 3.0)
+    assert told.startswith("2026, as made; FRR: 20") and told.count("FRR") == 1

@@ -4,10 +4,10 @@ import random
 
 import pytest
 
-from bonsainet.ask.program import Answer
+from bonsainet.ask.program import TOP, Answer
 from hostile import asked_run, asked_shut
 from hostile.asked_run import text_of
-from hostile.judge import answers, asked, asked_words, questions, rests
+from hostile.judge import answers, asked, asked_questions, asked_words, questions, rests
 from hostile.judge.rests import Down
 from hostile.makers import asked as maker
 from hostile.makers import disputes, shut
@@ -199,3 +199,79 @@ def test_a_run_is_left_out_by_name_without_a_program(monkeypatch, capsys):
     monkeypatch.setattr(asked_run, "TOP", asked_run.TOP / "nowhere")
     assert asked_run.main(["--seconds", "1"]) == 0
     assert capsys.readouterr().out.startswith("ask: left out: the repository has no bonsai-ask")
+
+
+FILE = b"! two questions\n\n1 count\n \t1  route\tr0 \r\n1 hops 0 r1"
+
+
+def test_a_file_of_questions_is_answered_line_by_line_without_labels():
+    net = network("disagree")
+    right = "question 3\nclass 1 solutions 2\nquestion 4\nclass 1 yes\nquestion 5\nclass 1 no\n"
+    asked_questions.judge(net, FILE, 8, right)
+    for status, wrong in (
+        (0, right),
+        (8, right.replace("question 4", "question 3")),
+        (8, right + "r0 none\n"),
+        (8, right.partition("question 5")[0]),
+    ):
+        with pytest.raises(asked.Differs):
+            asked_questions.judge(net, FILE, status, wrong)
+
+
+@pytest.mark.parametrize(
+    "line, kind",
+    [
+        (b"1 route", "BadForm"),
+        (b" ! no comment", "BadForm"),
+        (b"9 route r99", "NoClass"),
+        (b"1 without r0:r9 route r99", "UnknownRouter"),
+        (b"1 without r1:r0,r0:r3 route r0", "UnknownRouter"),
+    ],
+)
+def test_the_first_fault_of_a_file_of_questions(line, kind):
+    file = b"1 count\n" + line + b"\n1 frobs\n"
+    with pytest.raises(asked_questions.Faulty, match=f"questions line 2: {kind}"):
+        asked_questions.judge(network("disagree"), file, 0, "")
+    answer = Answer(1, b"", f"refused: questions line 2: {kind}\n".encode())
+    assert asked_run.fault(network("disagree"), ["questions", "S"], answer, file=file) is None
+    assert asked_run.fault(network("disagree"), ["questions", "S"], Answer(0, b"", b""), file=file)
+
+
+def test_words_of_no_form_have_the_usage():
+    assert asked_run.fault(network("disagree"), ["1"], Answer(2, b"", f"{asked_words.USAGE}\n".encode())) is None
+    assert asked_run.fault(network("disagree"), ["1"], Answer(2, b"", b"usage: x\n"))
+
+
+def test_files_of_questions_are_right_and_wrong_by_turns():
+    made = maker.Maker(random.Random(3), network("disagree"))
+    ends = set()
+    for _ in range(60):
+        try:
+            ends.add(min(3, len(asked_questions.calls_of(made.net, made.file()))))
+        except asked_questions.Faulty as why:
+            ends.add(str(why).split()[-1])
+    assert {1, 2, 3, "BadForm"} <= ends
+
+
+def test_a_tie_is_taken_where_a_router_may_have_two_such_offers():
+    net = answers.read((TOP / "examples/inputs/asking/tags-tied.cfg").read_bytes())
+    assert answer(net, ["1", "route", "far"], 0, "class 1 yes tied leaf communities\n")
+    for tie in ("nobody communities", "far communities", "leaf path"):
+        assert not answer(net, ["1", "route", "far"], 0, f"class 1 yes tied {tie}\n")
+    assert answer(net, ["1", "failing", "links", "route", "far"], 8, failing_links(net, ""))
+    assert not answer(net, ["1", "failing", "links", "route", "far"], 8, failing_links(net, " tied 1"))
+
+
+def failing_links(net, tied):
+    """What is said of `route far` where each single link is lost."""
+    question = asked_words.call_of(net, ["1", "route", "far"]).question
+    verdicts = [questions.verdict(net, 0, question, NOTHING.with_link(link)).word for link in range(len(net.links))]
+    lost = [f"link {name} {word}\n" for name, word in zip(questions.link_names(net), verdicts) if word != "yes"]
+    return f"class 1 yes tied leaf communities\n{''.join(lost)}class 1 failing {len(lost)} of {len(verdicts)}{tied}\n"
+
+
+def test_where_no_router_has_two_such_offers_nothing_is_tied():
+    net = network("disagree")
+    assert not answer(net, ["1", "route", "*"], 0, "class 1 yes tied r1 path\n")
+    lines = "class 1 yes\nclass 1 failing 0 of 3 tied 1\n"
+    assert not answer(net, ["1", "failing", "links", "route", "*"], 0, lines)

@@ -3,7 +3,7 @@ from __future__ import annotations
 
 import pytest
 
-from hostile.tests.texts import one, refusal, router, text
+from hostile.tests.texts import bgp_of, one, ospf_of, refusal, router, text
 
 LONG = "x" * 63
 A, B = 65000 << 16 | 1, 65000 << 16 | 2
@@ -253,7 +253,7 @@ def test_an_entry_once() -> None:
 )
 def test_a_network_of_bgp(line: str, network: tuple[str, int]) -> None:
     """With a mask, or with the length that the first number gives."""
-    assert one("router bgp 1", f" network {line}").bgp.networks == [(at(network[0]), network[1])]
+    assert bgp_of("router bgp 1", f" network {line}").networks == [(at(network[0]), network[1])]
 
 
 @pytest.mark.parametrize(
@@ -291,9 +291,7 @@ def test_neighbours() -> None:
         " neighbor 1.2.3.4 route-map M out",
         " neighbor 5.6.7.8 remote-as 1",
     ]
-    found = one(
-        "router bgp 9", *lines, "ip prefix-list P seq 5 permit 0.0.0.0/0", "route-map M permit 10"
-    ).bgp.neighbors
+    found = bgp_of("router bgp 9", *lines, "ip prefix-list P seq 5 permit 0.0.0.0/0", "route-map M permit 10").neighbors
     whole, bare = found[at("1.2.3.4")], found[at("5.6.7.8")]
     assert (whole.number, whole.shut, whole.sends, whole.lists, whole.maps) == (
         4294967295,
@@ -338,13 +336,13 @@ def test_no_neighbour(line: str, kind: str) -> None:
 
 def test_a_bgp_process() -> None:
     """Its default preference, once, and its networks, each once."""
-    assert one("router bgp 1", " bgp default local-preference 0").bgp.preference == 0
+    assert bgp_of("router bgp 1", " bgp default local-preference 0").preference == 0
     assert told("router bgp 1", " bgp default local-preference 1", (" bgp default local-preference 1",)) == (
         0,
         "Repeated",
     )
     assert told("router bgp 1", " network 10.0.0.0 mask 255.0.0.0", (" network 10.0.0.0",)) == (0, "Repeated")
-    assert one("router bgp 1", " network 10.0.0.0", " network 10.0.0.0 mask 255.255.0.0").bgp.networks == [
+    assert bgp_of("router bgp 1", " network 10.0.0.0", " network 10.0.0.0 mask 255.255.0.0").networks == [
         (10 << 24, 8),
         (10 << 24, 16),
     ]
@@ -357,7 +355,7 @@ def test_a_bgp_process() -> None:
 
 def test_an_ospf_process() -> None:
     """Areas by value; passive names."""
-    found = one(
+    found = ospf_of(
         "router ospf 65535",
         " network 10.0.0.7 0.0.255.255 area 0.0.0.7",
         " network 0.0.0.0 255.255.255.255 area 7",
@@ -365,7 +363,7 @@ def test_an_ospf_process() -> None:
         " passive-interface Vlan1",
         " no passive-interface Vlan2",
         " passive-interface default",
-    ).ospf
+    )
     assert [network[:3] for network in found.networks] == [(10 << 24 | 7, 65535, 7), (0, 0xFFFFFFFF, 7)]
     assert (found.passive, found.active, found.default_passive) == ({"Vlan1"}, {"Vlan2"}, True)
 

@@ -143,6 +143,7 @@ def test_places_of_lines() -> None:
     whole = one(
         "router bgp 7", " neighbor 10.0.0.2 remote-as 8", "interface Vlan1", " ip address 10.0.0.1 255.255.255.0"
     )
+    assert whole.bgp is not None
     assert (whole.line, whole.bgp.line, whole.bgp.neighbors[10 << 24 | 2].line, whole.interfaces["Vlan1"].line) == (
         1,
         2,

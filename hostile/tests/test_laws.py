@@ -1,7 +1,9 @@
 """Each law of `laws.py` is broken by a program that errs in it, and by no program that does not."""
 from __future__ import annotations
 
+import dataclasses
 from collections.abc import Callable
+from typing import Any
 
 import pytest
 
@@ -27,14 +29,14 @@ class Erring(Program):
         return self.edit(words, answer)
 
 
-def turned(command: str, **parts: object) -> Edit:
+def turned(command: str, **parts: Any) -> Edit:
     """An edit of the answers of one command that were done."""
 
     def edit(words: tuple[str, ...], answer: Answer) -> Answer:
         if words[0] != command or answer.status:
             return answer
         told = {key: value(getattr(answer, key)) if callable(value) else value for key, value in parts.items()}
-        return Answer(**{"status": answer.status, "out": answer.out, "err": answer.err, **told})
+        return dataclasses.replace(answer, **told)
 
     return edit
 
@@ -100,7 +102,8 @@ def test_a_program_that_looks_at_order_or_names(law: str, command: str) -> None:
     class Second(Program):
         def ask(self, *words: str, texts: dict[str, str | bytes] | None = None, seconds: float | None = None) -> Answer:
             answer = Asker.ask(program(), *words, texts=texts, seconds=seconds)
-            text = bytes(texts["F"])
+            given = (texts or {})["F"]
+            text = given if isinstance(given, bytes) else given.encode()
             if text not in seen:
                 seen.append(text)
             if words[0] != command or seen[0] == text or answer.status:

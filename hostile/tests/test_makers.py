@@ -147,7 +147,9 @@ def test_labels_are_solutions_of_the_right_form() -> None:
     for seed in range(40):
         chance = random.Random(seed)
         net = answers.read(networks.bgp(chance, networks.shape(chance)).encode())
-        for one in [] if isinstance(net, answers.Expected) else net.classes[:1]:
+        if isinstance(net, answers.Expected):
+            continue
+        for one in net.classes[:1]:
             made = problem.problem(net, one)
             for _ in range(10):
                 told = labels.fault(made, labels.read(label_maker.Maker(chance, net, made).text(), made))

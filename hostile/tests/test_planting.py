@@ -1,6 +1,7 @@
 """Faults can be planted where they say."""
 from __future__ import annotations
 
+import shutil
 import subprocess
 import sys
 from pathlib import Path
@@ -16,6 +17,7 @@ from hostile.planting import (
     judge_faults,
     program_faults,
     record,
+    switching,
     tool_faults,
     tools,
 )
@@ -129,23 +131,48 @@ def test_a_fault_of_the_tools_is_seen(tmp_path: Path) -> None:
     assert "old" not in text and text.endswith(f"{tools.END}\nbehind\n")
 
 
-def test_there_are_ten_faults_of_the_program_that_answers_questions() -> None:
-    """Their names differ, and those of one copy are told apart by their signs: no fault has the sign of another."""
-    assert len({fault.name for fault in ask_faults.FAULTS}) == len(ask_faults.FAULTS) >= 10
-    for faults in asked.by_copy([]).values():
-        assert len({fault.sign for fault in faults}) == len(faults)
+NEW_CRATES = (
+    "srp_without srp_questions solution_answers ask_words ask_names ask_classes ask_requests ask_answers ask_top all_classes "
+    "network_files"
+).split()
 
 
-def test_a_fault_is_found_by_its_sign(tmp_path: Path, monkeypatch: pytest.MonkeyPatch) -> None:
-    """What differs is read from the kept words; a fault that does not show is not found."""
-    told = {"a": "words 1 hops 2 r1\nexpected a line 'class 1 no'\nstatus 0\n", "b": "words 1 count\nexpected x\n"}
-    for name, text in told.items():
-        (tmp_path / f"{name}.txt").write_text(text)
-    monkeypatch.setattr(asked, "run", lambda *_: Found(texts=50, differences=sorted(told)))
-    faults = {fault.name: fault for fault in ask_faults.FAULTS}
-    found = asked.tried([faults["hops-below"], faults["carries-none"]], tmp_path, 1, 0.2, tmp_path)
-    assert [(one.fault.name, one.words) for one in found] == [("hops-below", "1 hops 2 r1"), ("carries-none", "")]
-    assert found[0].texts == 50
+def test_there_are_ten_faults_of_the_search_and_one_of_each_other_crate() -> None:
+    crates = [fault.file.partition("/")[0] for fault in ask_faults.FAULTS]
+    assert crates.count("solution_search") >= 10 and set(NEW_CRATES) <= set(crates)
+    assert len({fault.name for fault in ask_faults.FAULTS}) == len(ask_faults.FAULTS)
+    assert all(fault.wrong.count(ask_faults.SWITCH) == 1 for fault in ask_faults.FAULTS)
+
+
+@pytest.mark.parametrize("called", sorted(ask_faults.BY_PROGRAM))
+def test_all_faults_of_a_program_fit_into_one_copy_behind_their_numbers(called: str, tmp_path: Path) -> None:
+    shutil.copytree(TOP / "crates", tmp_path / "crates", ignore=shutil.ignore_patterns("out", "target", "proofs"))
+    faults = ask_faults.BY_PROGRAM[called]
+    switching.put(faults, tmp_path / "crates")
+    for number, fault in switching.numbered(faults):
+        assert f"base_kit::planted({number})" in (tmp_path / "crates" / fault.file).read_text()
+    assert "pub use planted::planted;" in (tmp_path / "crates" / "base_kit" / "src" / "lib.rt").read_text()
+    lines = switching.lines_of_crates((TOP / "crates.txt").read_text(), faults).splitlines()
+    below = {head: rest.split() for head, _, rest in (line.partition(":") for line in lines)}
+    assert all("base_kit" in below[fault.file.partition("/")[0]] for fault in faults)
+
+
+def test_a_process_has_the_number_of_the_fault_that_is_switched_on() -> None:
+    words = [sys.executable, "-c", "import resource; print(resource.getrlimit(resource.RLIMIT_MSGQUEUE)[0])"]
+    before = subprocess.run(words, capture_output=True, check=True).stdout
+    with switching.switched(7):
+        assert subprocess.run(words, capture_output=True, check=True).stdout == b"7\n"
+    assert subprocess.run(words, capture_output=True, check=True).stdout == before
+
+
+def test_a_fault_is_found_at_the_first_difference(tmp_path: Path, monkeypatch: pytest.MonkeyPatch) -> None:
+    """A run without one goes on with other texts; a fault that shows nowhere is not found."""
+    fault = ask_faults.FAULTS[0]
+    turns: list[list[str]] = [[], [], ["a"]]
+    (tmp_path / "a.txt").write_text("words 1 hops 2 r1\nexpected a line 'class 1 no'\nstatus 0\n")
+    monkeypatch.setattr(asked, "run", lambda *_: Found(texts=20, differences=turns.pop(0) if turns else []))
+    assert asked.tried(fault, 1, "bonsai-ask", tmp_path, 1, 9.0, tmp_path) == asked.Seen(fault, "1 hops 2 r1", 60)
+    assert asked.tried(fault, 1, "bonsai-ask", tmp_path, 1, 0.05, tmp_path).words == ""
 
 
 def test_the_table_of_found_faults_is_written(tmp_path: Path) -> None:
@@ -155,4 +182,4 @@ def test_the_table_of_found_faults_is_written(tmp_path: Path) -> None:
     for fault, words in zip(ask_faults.FAULTS[:2], ("", "1 hops 2 r1")):
         asked.keep(asked.Seen(fault, words, 50), tmp_path / "kept.json", page)
     assert "Found: 1 of the 2 that were tried." in page.read_text()
-    assert page.read_text().startswith(f"a\n{asked.BEGIN}\n| layer") and page.read_text().endswith(f"{asked.END}\nb\n")
+    assert page.read_text().startswith(f"a\n{asked.BEGIN}\n| crate") and page.read_text().endswith(f"{asked.END}\nb\n")

@@ -5,6 +5,7 @@ import json
 
 import pytest
 
+from bonsainet.nets.preferring import internet_text
 from hostile.judge import answers, labels, questions
 from hostile.judge.problem import problem
 from hostile.judge.rests import Down
@@ -133,6 +134,6 @@ def test_a_picture_shows_each_solution():
 
 def test_pairs_of_an_internet_are_linked_once():
     for seed, count in itertools.product((1, 2, 3), (8, 16)):
-        net = answers.read(networks.internet(seed, count).encode())
+        net = answers.read(internet_text(seed, count).encode())
         pairs = [frozenset(link[:2]) for link in net.links]
         assert len(set(pairs)) == len(pairs) and len(net.routers) == count

@@ -7,7 +7,7 @@ import pytest
 
 from hostile.asking import Asker
 from hostile.judge import problem, reading
-from hostile.judge.network import Refused, Router
+from hostile.judge.network import Bgp, Ospf, Refused, Router
 
 
 def text(*lines: str) -> bytes:
@@ -23,6 +23,20 @@ def router(name: str, *lines: str) -> list[str]:
 def one(*lines: str) -> Router:
     """The one router of these lines."""
     return reading.read(text(*router("a", *lines)))[0]
+
+
+def bgp_of(*lines: str) -> Bgp:
+    """The BGP process of the one router of these lines."""
+    found = one(*lines).bgp
+    assert found is not None
+    return found
+
+
+def ospf_of(*lines: str) -> Ospf:
+    """The OSPF process of the one router of these lines."""
+    found = one(*lines).ospf
+    assert found is not None
+    return found
 
 
 @functools.cache

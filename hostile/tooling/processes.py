@@ -32,6 +32,7 @@ READERS = {
     "bonsai-refusals": "TEXT",
     "bonsai-draw": "TEXT 1 -f dot",
     "bonsai-import": "FOLDER",
+    "bonsai-diff": "TEXT TEXT",
 }
 
 
@@ -159,7 +160,7 @@ def resumed(chance: random.Random, room: Path, _program: Program) -> list[str]:
     raw, wanted = _tree()
     (room / "text.cfg").write_bytes(raw)
     folder = room / "all"
-    words = "TEXT MADE --each --jobs 2"
+    words = "TEXT MADE --jobs 2"
     faults: list[str] = []
     for turn in range(chance.randint(1, 3)):
         again = " --resume" if turn else ""

@@ -6,7 +6,7 @@ import random
 from collections.abc import Callable, Iterator
 from pathlib import Path
 
-from bonsainet.ask.program import NotAnswered, Program, Status
+from bonsainet.ask.program import BONSAI, NotAnswered, Program, Status
 from bonsainet.cli.command_line import Refused
 from bonsainet.configs.compressed import Asked, asked
 from bonsainet.configs.text import lines_of
@@ -66,8 +66,8 @@ def faults_of_accepted(chance: random.Random, raw: bytes, program: Program) -> I
         return
     numbers = [found.number for found in text.classes]
     chosen = chance.sample(numbers, min(CLASSES, len(numbers)))
-    found = text.compress_each(program, chosen)
-    told = document(text, found, program.identity)
+    found = list(text.compress_each(sorted(chosen)))
+    told = document(text, found, {BONSAI: program.identity})
     if json.loads(json.dumps(told)) != told:
         yield "the document is no JSON"
     for each in found:
