@@ -16,4 +16,4 @@ _bonsai_tool() {
         mapfile -t COMPREPLY < <(compgen -f -- "$word")
     fi
 }
-complete -F _bonsai_tool bonsai-diff bonsai-doubts bonsai-draw bonsai-every bonsai-export bonsai-import bonsai-json bonsai-lab bonsai-page bonsai-refusals
+complete -F _bonsai_tool bonsai-diff bonsai-doubts bonsai-draw bonsai-every bonsai-export bonsai-import bonsai-json bonsai-lab bonsai-page bonsai-refusals bonsai-why
