@@ -1,14 +1,14 @@
 -- The first steps of each kind, and what is made of them.
-use Rattle.std.proofs.Common.{◌≡◌, ℕ, Bool, true, false, cond, ◌&&◌, List, [], ◌∷◌, ◌++◌, nat_eq, Option, Some, refl, sym, ◌∙◌, ap, arith, inl, inr, append_assoc}
-use Rattle.std.specs.Prelude.{filter, not}
+use Rattle.std.proofs.Common.{◌≡◌, ℕ, Bool, true, false, cond, ◌&&◌, List, [], ◌∷◌, ◌++◌, get_or, nat_eq, Option, Some, refl, sym, ◌∙◌, ap, subst, arith, inl, inr, append_assoc}
+use Rattle.std.specs.Prelude.{All, filter, not}
 use Rattle.std.specs.List.{cons_option}
 use Rattle.std.specs.Bool.{beq}
 use Rattle.std.proofs.lemmas.Bool.Decides.{nat_tests}
+use Rattle.std.proofs.lemmas.List.Elements.{All-push}
 use Rattle.base_kit.proofs.Elements.{In}
 use Rattle.by_key.specs.ByKey.{with_key}
 use Rattle.abstract_net.specs.declared.steps.Step.{Step}
 use Rattle.abstract_net.specs.GroupSteps.{low_of, high_of, same_kind, met_too, first_kinds, none_met, first_new, goes_into, edges_into}
-use Rattle.abstract_net.proofs.Places.{cell}
 
 left_of : (a b : Bool) → (a && b) ≡ true → a ≡ true
 left_of true b e = refl
@@ -160,3 +160,21 @@ new_kind met met' old new step o later is fresh more pushed =
     ∙ (λ i. old ++ step ∷ first_kinds (λ y. more y i) later)
     ∙ sym (ap (λ b. old ++ cond b (first_kinds met later) (step ∷ first_kinds (met_too step met) later)) (not_true (met step) fresh))
     ∙ sym (ap (λ (x : Option Step). old ++ first_kinds met (cons_option x later)) is)
+
+-- what was met is met still, and the step that was put last is met too
+pub all_met : (met met' : Step → Bool) (old new : List Step) (step : Step) → All (λ s. met s ≡ true) old → ((y : Step) → met' y ≡ met_too step met y)
+    → new ≡ old ++ step ∷ [] → All (λ s. met' s ≡ true) new
+all_met met met' old new step before more pushed = subst (All (λ s. met' s ≡ true)) (sym pushed)
+    (All-push (λ s. met' s ≡ true) old step (λ k d inside. more (get_or old k d) ∙ still (same_kind step (get_or old k d)) _ (before k d inside))
+    (more step ∙ itself (same_kind step step) (same_as_itself step)))
+  where
+    still : (b c : Bool) → c ≡ true → cond b true c ≡ true
+    still true c known = refl
+    still false c known = known
+
+    itself : (b : Bool) → b ≡ true → cond b true (met step) ≡ true
+    itself true e = refl
+    itself false e = absurd cc
+
+    same_as_itself : (s : Step) → same_kind s s ≡ true
+    same_as_itself s = grind (arith, nat_tests)

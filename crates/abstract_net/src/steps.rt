@@ -1,11 +1,11 @@
 //! Edges between groups, in the order in which their links stand.
 
-ghost use Rattle.std.specs.Prelude.{◌≡◌, ℕ, ◌<◌, ◌^◌, ◌++◌, List, All, IfOk, OnOk, length};
+ghost use Rattle.std.specs.Prelude.{◌≡◌, ℕ, ◌<◌, ◌^◌, ◌++◌, true, List, All, IfOk, OnOk, length};
 ghost use Rattle.std.specs.List.{cons_option};
 ghost use Rattle.base_kit.specs.Partition.{IsNumbered};
 ghost use Rattle.by_key.specs.ByKey.{by_key};
-ghost use Rattle.abstract_net.specs.GroupSteps.{step_of, low_of, high_of, first_kinds, first_steps, sorted_steps};
-ghost use Rattle.abstract_net.specs.Met.{is_met};
+ghost use Rattle.abstract_net.specs.GroupSteps.{step_of, low_of, high_of, same_kind, first_kinds, first_steps, sorted_steps};
+ghost use Rattle.abstract_net.specs.Met.{is_met, AreMet, HasKind};
 
 use crate::by_link::places_by_link;
 use base_kit::{Edge, NoMemory};
@@ -48,15 +48,41 @@ fn step_of(p: &Partition, place: u32, edge: &Edge) -> Option<Step>
 // The groups of a step, the lower one first, and its direction and act.
 type Kind = ((u32, u32), (bool, u32));
 
+fn is_same_kind(a: &Step, b: &Step) -> bool
+    ensures { result ≡ same_kind a.now b.now }
+{
+    a.low == b.low && a.high == b.high && a.into_low == b.into_low && a.act == b.act
+}
+
+// So many of the first steps are looked at before the set is asked.
+const FEW: usize = 16;
+
+// Whether one of the first few steps is of the kind of this one.
+fn is_early(steps: &[Step], step: &Step) -> bool
+    ensures { result ≡ true → HasKind steps.now step.now }
+{
+    for place in 0..steps.len().min(FEW) {
+        if is_same_kind(&steps[place], step) {
+            return true;
+        }
+    }
+    false
+}
+
 // Puts a step last, if none of its kind was met yet.
 fn push_first(
     met: &mut HashSet<Kind>,
     steps: &mut Vec<Step>,
     step: Option<Step>,
 ) -> Result<(), NoMemory>
-    ensures { OnOk result ((later : List Step) → steps.new.items ++ first_kinds (is_met met.new) later ≡ steps.old.items ++ first_kinds (is_met met.old) (cons_option step later)) }
+    requires { AreMet met.old steps.old.items }
+    ensures met { OnOk result (AreMet met.new steps.new.items) }
+    ensures steps { OnOk result ((later : List Step) → steps.new.items ++ first_kinds (is_met met.new) later ≡ steps.old.items ++ first_kinds (is_met met.old) (cons_option step later)) }
 {
     if let Some(step) = step {
+        if is_early(steps, &step) {
+            return Ok(());
+        }
         let is_new = met.insert(((step.low, step.high), (step.into_low, step.act)))?;
         if is_new {
             steps.push(step)?;

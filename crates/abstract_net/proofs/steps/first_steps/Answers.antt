@@ -1,4 +1,4 @@
-use Rattle.std.proofs.Common.{◌≡◌, ◌∙◌, ◌+◌, ◌<◌, ◌++◌, ℕ, List, length, drop, refl, ap}
+use Rattle.std.proofs.Common.{◌∙◌, ◌+◌, ◌<◌, ◌++◌, ℕ, List, length, drop, refl, ap}
 use Rattle.std.specs.Prelude.{filter_map, slice_index}
 use Rattle.base_kit.specs.declared.act_graph.Edge.{Edge}
 use Rattle.abstract_net.specs.declared.steps.Step.{Step}
@@ -32,7 +32,10 @@ loop-place-preserved c =
     in
     let step = c.step_of-step.ensures ∙ step_is es groups (slice_index places k) _
     (get_any es (slice_index places k) (record { importer = 0; exporter = 0; act = 0; link = 0 }) inside) in
-    c.in_ok-push_first.ensures (filter_map (step_at es groups) (drop (k + 1) places))
-    ∙ ap (λ (xs : List Step). c.loop-place.steps.items ++ first_kinds (is_met c.loop-place.met) xs)
-    (left_more es groups places k (slice_index places k) _ c.loop-place-test.true refl step)
-    ∙ c.loop-place.invariant
+    record {
+      met = c.in_ok-push_first.ensures.met;
+      steps = c.in_ok-push_first.ensures.steps (filter_map (step_at es groups) (drop (k + 1) places))
+          ∙ ap (λ (xs : List Step). c.loop-place.steps.items ++ first_kinds (is_met c.loop-place.met) xs)
+          (left_more es groups places k (slice_index places k) _ c.loop-place-test.true refl step)
+          ∙ c.loop-place.invariant.steps;
+    }
