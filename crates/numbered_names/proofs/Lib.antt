@@ -1,3 +1,4 @@
 pub mod Firsts
 pub mod Noted
 pub mod Positions
+mod Tiers
