@@ -2,15 +2,11 @@
 use Rattle.std.proofs.Common.{◌≡◌, ℕ, zero, suc, ◌+◌, ◌<◌, Bool, true, false, cond, List, [], ◌∷◌, length, Option, Some, None, String, IsSome, string_bytes, refl, sym, ap, subst, ◌∙◌, arith, option_map, true≢false}
 use Rattle.std.specs.Prelude.{bytes_eq, find, nat_lt, slice_get}
 use Rattle.std.specs.List.{position, position_or_len}
-use Rattle.std.specs.BTreeMap as tree
-use Rattle.std.specs.Option.{option_and_then, option_or}
-use Rattle.std.specs.Ordering.{is_eq, nat_cmp}
-use Rattle.std.specs.Cmp.Lexicographic.{slice_cmp}
+use Rattle.std.specs.Option.{option_and_then}
 use Rattle.std.specs.Str.{IsUtf8}
 use Rattle.std.specs.Map.{lookup}
 use Rattle.std.proofs.lemmas.Bool.Decides.{nat_tests}
 use Rattle.std.proofs.lemmas.List.Folds.{find_at}
-use Rattle.std.proofs.lemmas.Map.Text.{is_eq-slice_cmp}
 use Rattle.std.proofs.lemmas.Slice.Eq.{bytes_eq-Decides}
 use Rattle.std.proofs.Math.Logic.{∥∥₁_elim}
 use Rattle.std.proofs.Props.{props}
@@ -85,31 +81,24 @@ find_turned {X} name_of name (x ∷ xs) =
 -- ---- names are texts
 
 -- the bytes of a key that is found are a text
-pub text_found : {X Y : Type 0} (word : List ℕ) (test : String Y → Bool) → ((key : String Y) → test key ≡ true → word ≡ string_bytes key)
-    → (entries : List (String Y × X)) → IsSome (lookup test entries) → ∥ IsUtf8 word ∥₁
-text_found word test same [] some = absurd (true≢false (sym some))
-text_found {X} {Y} word test same (entry ∷ entries) some = by (test entry.0) refl (text_found word test same entries) some
+pub text_found : {X Y : Type 0} (word : List ℕ) (entries : List (String Y × X)) → IsSome (lookup (λ k. bytes_eq word (string_bytes k)) entries) →
+    ∥ IsUtf8 word ∥₁
+text_found word [] some = absurd (true≢false (sym some))
+text_found {X} {Y} word (entry ∷ entries) some = by (bytes_eq word (string_bytes entry.0)) refl (text_found word entries) some
   where
-    by : (b : Bool) → test entry.0 ≡ b → (IsSome (lookup test entries) → ∥ IsUtf8 word ∥₁) → IsSome (cond b (Some entry.1) (lookup test entries)) → ∥ IsUtf8 word ∥₁
-    by true here rest found = subst (λ (bs : List ℕ). ∥ IsUtf8 bs ∥₁) (sym (same entry.0 here)) entry.0.ok
+    by : (b : Bool) → bytes_eq word (string_bytes entry.0) ≡ b →
+        (IsSome (lookup (λ (k : String Y). bytes_eq word (string_bytes k)) entries) → ∥ IsUtf8 word ∥₁) →
+        IsSome (cond b (Some entry.1) (lookup (λ (k : String Y). bytes_eq word (string_bytes k)) entries)) → ∥ IsUtf8 word ∥₁
+    by true same rest found = subst (λ (bs : List ℕ). ∥ IsUtf8 bs ∥₁) (sym ((bytes_eq-Decides word (string_bytes entry.0)).0 same)) entry.0.ok
     by false other rest found = rest found
-
--- a word that is no text is in neither part
-none_found : {X Y : Type 0} (word : List ℕ) → (IsUtf8 word → ⊥) → (test : String Y → Bool) → ((key : String Y) → test key ≡ true → word ≡ string_bytes key)
-    → (entries : List (String Y × X)) → lookup test entries ≡ None
-none_found {X} word none test same entries = by (lookup test entries) refl
-  where
-    by : (found : Option X) → lookup test entries ≡ found → found ≡ None
-    by None is = refl
-    by (Some place) is = absurd (∥∥₁_elim (text_found word test same entries (subst IsSome (sym is) refl)) (hlevel props) none)
 
 -- a word that is no text has no place
 pub no_place : (places : NamePlaces) (word : List ℕ) → (IsUtf8 word → ⊥) → place_in places word ≡ None
-no_place places word none =
-    ap (λ o. option_or o (tree.get_by_text places.more word))
-    (none_found word none (λ k. bytes_eq word (string_bytes k)) (λ k here. (bytes_eq-Decides word (string_bytes k)).0 here) places.few.entries)
-    ∙ none_found word none (λ k. is_eq (slice_cmp nat_cmp word (string_bytes k)))
-    (λ k here. (bytes_eq-Decides word (string_bytes k)).0 (sym (is_eq-slice_cmp word (string_bytes k)) ∙ here)) places.more.entries
+no_place places word none = by (place_in places word) refl
+  where
+    by : (found : Option ℕ) → place_in places word ≡ found → found ≡ None
+    by None is = refl
+    by (Some place) is = absurd (∥∥₁_elim (text_found word places.places.entries (subst IsSome (sym is) refl)) (hlevel props) none)
 
 -- ---- places of names
 

@@ -1,2 +1,1 @@
 pub mod NamePlaces
-pub mod NameSets

@@ -1,4 +1,4 @@
-//! The places of names: of the first few by a hash, and of more in their order.
+//! The places of names, found by a hash.
 
 ghost use Rattle.std.specs.Prelude.{◌≡◌, ◌^◌, ◌∷◌, ◌++◌, [], ℕ, List, None, IfOk, OnOk, OnErr, bytes_eq, find, option_copied, slice_get};
 
@@ -6,16 +6,11 @@ use crate::has_name::HasName;
 use base_kit::NoMemory;
 use indexmap::IndexMap;
 use std::alloc::Global;
-use std::collections::BTreeMap;
-
-// So many names are found by a hash. Its seed is fixed, so names can be chosen whose hashes meet; few such names cost little.
-const FEW: usize = 64;
 
 /// The places of names.
 #[derive(Drop)]
 pub struct NamePlaces {
-    few: IndexMap<String, usize>,
-    more: BTreeMap<String, usize>,
+    places: IndexMap<String, usize>,
 }
 
 fn item_at<T>(items: &[T], place: usize) -> Option<&T>
@@ -32,8 +27,7 @@ impl NamePlaces {
         ensures { (name : List ℕ) → place_in result name ≡ None }
     {
         NamePlaces {
-            few: IndexMap::new(alloc),
-            more: BTreeMap::new(alloc),
+            places: IndexMap::new(alloc),
         }
     }
 
@@ -47,14 +41,9 @@ impl NamePlaces {
         ensures err { OnErr result (ArePlacesOf T.name self.new items.now) }
     {
         let name = item.name();
-        if self.place_of(name).is_some() {
-            return Ok(());
-        }
-        let key = String::from_str(alloc, name)?;
-        if self.few.len() < FEW {
-            self.few.insert(key, items.len())?;
-        } else {
-            self.more.insert(key, items.len())?;
+        if self.place_of(name).is_none() {
+            let key = String::from_str(alloc, name)?;
+            self.places.insert(key, items.len())?;
         }
         Ok(())
     }
@@ -63,21 +52,21 @@ impl NamePlaces {
     pub fn of<T: HasName>(alloc: Global, items: &[T]) -> Result<Self, NoMemory>
         ensures { IfOk result (λ places. ArePlacesOf T.name places items.now) }
     {
-        let mut places = NamePlaces::new(alloc);
-        for (i, item) in items.iter().enumerate() {
-            places.note(alloc, &items[..i], item)?;
+        let mut places: IndexMap<String, usize> = IndexMap::new(alloc);
+        let mut place = items.len();
+        while place > 0 {
+            place -= 1;
+            let name = String::from_str(alloc, items[place].name())?;
+            places.insert(name, place)?;
         }
-        Ok(places)
+        Ok(NamePlaces { places })
     }
 
     /// The place of a name, if it has one.
     pub fn place_of(&self, name: &str) -> Option<usize>
         ensures { result ≡ place_in self.now name.now }
     {
-        match self.few.get(name) {
-            Some(place) => Some(*place),
-            None => self.more.get(name).copied(),
-        }
+        self.places.get(name).copied()
     }
 
     /// The place of the name that a word is, if it is one that has a place.
