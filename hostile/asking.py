@@ -9,6 +9,7 @@ import os
 import select
 import signal
 import subprocess
+from collections.abc import Mapping
 
 from bonsainet.ask.program import LOWEST, Answer, Program, with_places
 
@@ -53,7 +54,9 @@ class Asker(Program):
         os.close(self._out)
         os.close(self._err)
 
-    def ask(self, *words: str, texts: dict[str, str | bytes] | None = None, seconds: float | None = SECONDS) -> Answer:
+    def ask(
+        self, *words: str, texts: Mapping[str, str | bytes] | None = None, seconds: float | None = SECONDS
+    ) -> Answer:
         """Runs a command. The first word that is a key of `texts` names a file with that text."""
         files = {name: _file(text) for name, text in (texts or {}).items()}
         places = {name: f"/proc/self/fd/{file}" for name, file in files.items()}

@@ -3,6 +3,7 @@ from __future__ import annotations
 
 import hashlib
 import sqlite3
+from collections.abc import Mapping
 from pathlib import Path
 
 from hostile.asking import SECONDS, Asker
@@ -26,7 +27,9 @@ class KeptAsker(Asker):
         self._base.close()
         super().close()
 
-    def ask(self, *words: str, texts: dict[str, str | bytes] | None = None, seconds: float | None = SECONDS) -> Answer:
+    def ask(
+        self, *words: str, texts: Mapping[str, str | bytes] | None = None, seconds: float | None = SECONDS
+    ) -> Answer:
         """The kept answer, else that of the program."""
         given = {
             name: text.encode("utf-8", "surrogateescape") if isinstance(text, str) else text

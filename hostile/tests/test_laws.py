@@ -2,7 +2,7 @@
 from __future__ import annotations
 
 import dataclasses
-from collections.abc import Callable
+from collections.abc import Callable, Mapping
 from typing import Any
 
 import pytest
@@ -23,7 +23,7 @@ class Erring(Program):
         super().__init__(program().path)
         self.edit = edit
 
-    def ask(self, *words: str, texts: dict[str, str | bytes] | None = None, seconds: float | None = None) -> Answer:
+    def ask(self, *words: str, texts: Mapping[str, str | bytes] | None = None, seconds: float | None = None) -> Answer:
         """The answer as the edit has it."""
         answer = Asker.ask(program(), *words, texts=texts, seconds=seconds)
         return self.edit(words, answer)
@@ -100,7 +100,9 @@ def test_a_program_that_looks_at_order_or_names(law: str, command: str) -> None:
     seen: list[bytes] = []
 
     class Second(Program):
-        def ask(self, *words: str, texts: dict[str, str | bytes] | None = None, seconds: float | None = None) -> Answer:
+        def ask(
+            self, *words: str, texts: Mapping[str, str | bytes] | None = None, seconds: float | None = None
+        ) -> Answer:
             answer = Asker.ask(program(), *words, texts=texts, seconds=seconds)
             given = (texts or {})["F"]
             text = given if isinstance(given, bytes) else given.encode()
@@ -123,7 +125,7 @@ class WithCanon(Erring):
     """The program, with `compress` for `canon`: right over networks of OSPF, and wrong where maps are written in
     several ways."""
 
-    def ask(self, *words: str, texts: dict[str, str | bytes] | None = None, seconds: float | None = None) -> Answer:
+    def ask(self, *words: str, texts: Mapping[str, str | bytes] | None = None, seconds: float | None = None) -> Answer:
         """The answer as the edit has it."""
         answer = Asker.ask(
             program(), *(["compress", *words[1:]] if words[0] == "canon" else words), texts=texts, seconds=seconds
@@ -162,7 +164,9 @@ def test_a_program_without_canon_is_not_asked_for_it() -> None:
     """Usage says that there is none."""
 
     class Without(Erring):
-        def ask(self, *words: str, texts: dict[str, str | bytes] | None = None, seconds: float | None = None) -> Answer:
+        def ask(
+            self, *words: str, texts: Mapping[str, str | bytes] | None = None, seconds: float | None = None
+        ) -> Answer:
             return (
                 Answer(2, b"", b"usage: bonsai\n")
                 if words[0] == "canon"

@@ -4,6 +4,7 @@ from __future__ import annotations
 import json
 import stat
 import subprocess
+from collections.abc import Mapping
 from pathlib import Path
 
 import pytest
@@ -59,7 +60,7 @@ def test_a_reader_that_fails_is_told(monkeypatch: pytest.MonkeyPatch) -> None:
 class Turned(Asker):
     """A program that is right but for one word of `classes`."""
 
-    def ask(self, *words: str, texts: dict[str, str | bytes] | None = None, seconds: float | None = 60) -> Answer:
+    def ask(self, *words: str, texts: Mapping[str, str | bytes] | None = None, seconds: float | None = 60) -> Answer:
         """The answer, with `prefix` for `prefixes`."""
         answer = super().ask(*words, texts=texts, seconds=seconds)
         return Answer(

@@ -149,7 +149,7 @@ class Program:
         """The program as one file that runs alone. None where there is none."""
         return Path(self.path) if is_file_of_one(self.path) else None
 
-    def ask(self, *words: str, texts: dict[str, str | bytes] | None = None, seconds: float | None = None) -> Answer:
+    def ask(self, *words: str, texts: Mapping[str, str | bytes] | None = None, seconds: float | None = None) -> Answer:
         """Runs a command. The first word that is a key of `texts` names a file with that text, in memory and made for this
         call alone; further ones are words, as a router may have the name. TimeoutExpired after so many seconds."""
         with contextlib.ExitStack() as room:
@@ -157,14 +157,14 @@ class Program:
             places = {name: f"/proc/self/fd/{file.fileno()}" for name, file in files.items()}
             asked = [self.path, *with_places(words, places)]
             done = ran(asked, [file.fileno() for file in files.values()], seconds)
-            err = without_notices(done.stderr)
-            for name, place in sorted(places.items(), key=lambda item: -len(item[1])):
-                err = err.replace(place.encode(), name.encode())
-            return Answer(done.returncode, done.stdout, err)
+        err = without_notices(done.stderr)
+        for name, place in sorted(places.items(), key=lambda item: -len(item[1])):
+            err = err.replace(place.encode(), name.encode())
+        return Answer(done.returncode, done.stdout, err)
 
     @contextlib.contextmanager
     def output(
-        self, *words: str, texts: dict[str, str | bytes] | None = None, done: Collection[int] = (Status.DONE,)
+        self, *words: str, texts: Mapping[str, str | bytes] | None = None, done: Collection[int] = (Status.DONE,)
     ) -> Iterator[IO[bytes]]:
         """The output of a command while it is written; words are as for `ask`. The command is ended where it is not read to its end. NotAnswered
         where it ends with a status that is not in `done`."""
@@ -188,7 +188,7 @@ class Program:
                 told.seek(0)
                 raise NotAnswered(Answer(process.returncode, b"", without_notices(told.read())), " ".join(words[:1]))
 
-    def done(self, *words: str, texts: dict[str, str | bytes] | None = None) -> str:
+    def done(self, *words: str, texts: Mapping[str, str | bytes] | None = None) -> str:
         """The output of a command that must end with Done; else NotAnswered."""
         answer = self.ask(*words, texts=texts)
         if answer.status != Status.DONE:
@@ -304,5 +304,4 @@ def report_of(text: str) -> tuple[Size, list[Group]]:
 
 def sizes_of(text: str) -> list[Size]:
     """The sizes that `summary` or `trial` wrote."""
-    form = re.compile(r"class (\d+): (\d+) routers (\d+) links (\d+) groups (\d+) links")
-    return [Size(*map(int, form.fullmatch(line).groups())) for line in text.splitlines()]
+    return [Size(*map(int, re.findall(r"\d+", line))) for line in text.splitlines()]

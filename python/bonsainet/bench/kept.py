@@ -13,7 +13,7 @@ from collections.abc import Callable
 from pathlib import Path
 from typing import IO, Any
 
-from bonsainet.bench.measures import MEMORY, SECONDS, Measure
+from bonsainet.bench.measures import MEMORY, SECONDS, Measure, Run
 from bonsainet.cli.command_line import write_output
 from bonsainet.ask.program import TOP
 
@@ -24,22 +24,10 @@ KINDS = {"shape": str, "command": str, "load": float}
 
 
 @dataclasses.dataclass(frozen=True)
-class Row:
-    """One command on one network.
-
-    `size` is the one that was asked for. `bytes` are read and written. `load` is the machine's load when the
-    row was made. `least` has the least figures of each program, in order.
-    """
+class Row(Run):
+    """One command on one network of a shape. `least` has the least figures of each program, in order."""
 
     shape: str
-    size: int
-    command: str
-    routers: int
-    links: int
-    classes: int
-    bytes: int
-    turns: int
-    load: float
     least: tuple[tuple[float, ...], ...]
 
     @property

@@ -18,6 +18,23 @@ MORE_TURNS = 4
 
 
 @dataclasses.dataclass(frozen=True)
+class Run:
+    """A command on a network of a size that was asked for.
+
+    `bytes` are read and written. `load` is the machine's load when the figures were kept.
+    """
+
+    size: int
+    command: str
+    routers: int
+    links: int
+    classes: int
+    bytes: int
+    turns: int
+    load: float
+
+
+@dataclasses.dataclass(frozen=True)
 class Measure:
     """What is measured of a run: its name, its unit, how a figure is written, from which figure on two are compared,
     and which difference counts.

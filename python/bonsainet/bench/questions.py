@@ -17,6 +17,7 @@ from collections.abc import Callable, Iterable, Iterator
 from pathlib import Path
 
 from bonsainet.ask.program import TOP
+from bonsainet.bench.measures import Run
 from bonsainet.bench.paper import TIME
 from bonsainet.bench.shapes import SHAPES
 from bonsainet.bench.states import in_ascii, kind, machine, program_at
@@ -112,22 +113,17 @@ PLANS = (
 
 
 @dataclasses.dataclass(frozen=True)
-class Row:
-    """What a command on a network came to. Seconds are of user and system; memory is the most that was resident, in MiB;
-    `bytes` are read and written; `load` is that of the machine when the row was made."""
+class Row(Run):
+    """What a command on a network came to. Seconds are of user and system; memory is the most that was resident, in MiB."""
 
     network: str
-    size: int
-    command: str
-    routers: int
-    links: int
-    classes: int
-    bytes: int
-    turns: int
-    load: float
     seconds: float
     user: float
     memory: float
+
+
+KINDS = {field.name: {"str": str, "int": int, "float": float}[str(field.type)] for field in dataclasses.fields(Row)}
+COLUMNS = ("network", *(name for name in KINDS if name != "network"))
 
 
 def programs_of(program: Path) -> dict[str, Path]:
@@ -189,18 +185,18 @@ def measured(programs: dict[str, Path], plan: Plan, size: int, runs: int) -> Ite
                     found[place].append(seconds(*words))
         for command, one, turns in zip(able, first, found, strict=True):
             yield Row(
-                plan.network,
-                size,
-                command.name,
-                text.count("hostname "),
-                text.count(MASK_OF_LINK) // 2,
-                classes,
-                len(text) + one.bytes,
-                len(turns),
-                round(os.getloadavg()[0], 1),
-                round(min(taken for taken, _ in turns), 6),
-                round(min(user for _, user in turns), 6),
-                round(one.memory, 1),
+                network=plan.network,
+                size=size,
+                command=command.name,
+                routers=text.count("hostname "),
+                links=text.count(MASK_OF_LINK) // 2,
+                classes=classes,
+                bytes=len(text) + one.bytes,
+                turns=len(turns),
+                load=round(os.getloadavg()[0], 1),
+                seconds=round(min(taken for taken, _ in turns), 6),
+                user=round(min(user for _, user in turns), 6),
+                memory=round(one.memory, 1),
             )
 
 
@@ -256,7 +252,7 @@ def write(rows: Iterable[Row], told: str, place: Path = KEPT) -> None:
     """Keeps the rows; the first line says which programs were measured on which machine."""
     with open(place, "w", newline="", encoding="ascii") as file:
         file.write(f"# {told}\n")
-        out = csv.DictWriter(file, [field.name for field in dataclasses.fields(Row)], lineterminator="\n")
+        out = csv.DictWriter(file, COLUMNS, lineterminator="\n")
         out.writeheader()
         out.writerows(dataclasses.asdict(row) for row in rows)
 
@@ -264,8 +260,7 @@ def write(rows: Iterable[Row], told: str, place: Path = KEPT) -> None:
 def read(place: Path = KEPT) -> tuple[str, list[Row]]:
     """What is kept: which programs were measured on which machine, and the rows."""
     first, *lines = place.read_text("ascii").splitlines()
-    kinds = {field.name: {"str": str, "int": int, "float": float}[str(field.type)] for field in dataclasses.fields(Row)}
-    found = [Row(**{name: kinds[name](value) for name, value in row.items()}) for row in csv.DictReader(lines)]
+    found = [Row(**{name: KINDS[name](value) for name, value in row.items()}) for row in csv.DictReader(lines)]
     return first.removeprefix("# "), found
 
 

@@ -255,7 +255,7 @@ def in_series(
             print(f"turns: {it.shape} {it.size} {command}: the programs write different answers", file=sys.stderr)
     for it, length, (least, turns) in zip(able, lengths, in_turn(programs, asked, runs, measure), strict=True):
         yield Row(
-            it.shape, it.size, command, it.routers, it.links, it.classes, length, turns, os.getloadavg()[0], least
+            it.size, command, it.routers, it.links, it.classes, length, turns, os.getloadavg()[0], it.shape, least
         )
 
 

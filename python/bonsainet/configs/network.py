@@ -31,6 +31,12 @@ class End:
         return self.interface.own_address.ip
 
     @property
+    def own_neighbor(self) -> Neighbor:
+        """The neighbour of an end of a session."""
+        assert self.neighbor
+        return self.neighbor
+
+    @property
     def cost(self) -> int | None:
         """The OSPF cost of the interface: what the device adds to routes that it takes over this link."""
         return self.interface.cost_in_area

@@ -1,12 +1,13 @@
 """The two networks that are compared: a folder, a text, or what a Git repository has of them at a revision."""
 from __future__ import annotations
 
+import contextlib
 import dataclasses
 import os
 import re
 import sys
 import tempfile
-from collections.abc import Callable
+from collections.abc import Callable, Iterator
 from pathlib import Path
 
 from bonsainet.cli.command_line import Refused, printable, read_input
@@ -17,12 +18,25 @@ from bonsainet.diffing import git
 from bonsainet.importing.decisions import Decisions, read_decisions
 from bonsainet.importing.rules.options import Options
 from bonsainet.importing.tool import import_folder
-from bonsainet.library import ImportRefused, Network
+from bonsainet.library import BonsaiError, ImportRefused, Network
 from bonsainet.library.calls import BONSAI, program
 
 # A revision has no two points in a row, and neither begins nor ends with a slash, as paths with `..` in them do.
 RANGE = re.compile(r"(?P<old>(?!/)(?:(?!\.\.)[^:])*?)(?<!/)(?P<points>\.{2,3})(?![./])(?P<new>(?:(?!\.\.)[^:])*)(?<!/)")
 MERGE_BASE = "..."
+
+
+@contextlib.contextmanager
+def refusing() -> Iterator[None]:
+    """What the library refuses ends a tool with one line, and below it the lines that an import leaves to a person."""
+    try:
+        yield
+    except ImportRefused as refused:
+        raise Refused(
+            str(refused), [f"  {one.place}: {one.text}: {one.reason}" for one in refused.report.refused]
+        ) from None
+    except BonsaiError as fault:
+        raise Refused(str(fault)) from None
 
 
 @dataclasses.dataclass(frozen=True)

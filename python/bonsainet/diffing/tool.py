@@ -4,14 +4,14 @@ from __future__ import annotations
 import argparse
 import json
 
-from bonsainet.cli.command_line import Refused, parser, write_output
+from bonsainet.cli.command_line import parser, write_output
 from bonsainet.diffing.documents import document
 from bonsainet.diffing.reason_words import reason_lines
 from bonsainet.diffing.reasons import reasons_of
 from bonsainet.diffing.shown import show
-from bonsainet.diffing.sides import beside, networks_at, places, say_changes
+from bonsainet.diffing.sides import beside, networks_at, places, refusing, say_changes
 from bonsainet.diffing.words import lines
-from bonsainet.library import BonsaiError, ImportRefused, diff
+from bonsainet.library import diff
 from bonsainet.library.calls import ASK, program
 
 NAME = "bonsai-diff"
@@ -66,18 +66,12 @@ def main(argv: list[str] | None = None) -> int:
     if sides is None:
         made.error("NEW is missing: give two networks, or two revisions as OLD..NEW")
     decisions = given.old_decisions or given.decisions, given.decisions
-    try:
+    with refusing():
         first, second = (beside(word, side) for side, word in zip(sides, decisions))
         old, new = networks_at(sides, (first, second), given.own_as)
         say_changes(NAME, old)
         say_changes(NAME, new)
         found, reasons = diff(old, new), reasons_of(old, new)
-    except ImportRefused as refused:
-        raise Refused(
-            str(refused), [f"  {one.place}: {one.text}: {one.reason}" for one in refused.report.refused]
-        ) from None
-    except BonsaiError as fault:
-        raise Refused(str(fault)) from None
     if given.html:
         from bonsainet.diffing.page import page
 

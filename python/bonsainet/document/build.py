@@ -129,7 +129,7 @@ def _end(network: Network, group_of: dict[str, Group], end: End) -> dict[str, ob
     made: dict[str, object] = {"group": group, "interface": end.interface.name, "address": str(end.address)}
     if network.protocol == "ospf":
         return made | {"cost": end.cost}
-    neighbor = end.neighbor
+    neighbor = end.own_neighbor
     return made | {"in": neighbor.map_in, "out": neighbor.map_out, "sends_communities": neighbor.sends_communities}
 
 

@@ -25,7 +25,7 @@ def doubts_of_links(network: Network) -> Iterator[Doubt]:
 
 def _networks_of_bgp(network: Network) -> Iterator[Doubt]:
     for device in network.devices:
-        up = {interface.address.network for interface in device.up_interfaces}
+        up = {interface.own_address.network for interface in device.up_interfaces}
         for prefix, line in device.bgp.networks.items() if device.bgp else ():
             if prefix not in up:
                 yield doubt("originates-nothing", device.name, line, _why_not_originated(device, prefix))
@@ -33,20 +33,20 @@ def _networks_of_bgp(network: Network) -> Iterator[Doubt]:
 
 def _why_not_originated(device: Device, prefix: IPv4Network) -> str:
     """Why no up interface has exactly the prefix."""
-    given = [interface for interface in device.interfaces if interface.address]
-    shut = next((interface for interface in given if interface.address.network == prefix), None)
+    given = [(interface, interface.address.network) for interface in device.interfaces if interface.address]
+    shut = next((interface for interface, subnet in given if subnet == prefix), None)
     if shut:
         return f"{shut.name} has the subnet {prefix} and is shut down"
-    near = next((interface for interface in given if interface.address.network.overlaps(prefix)), None)
+    near = next(((interface, subnet) for interface, subnet in given if subnet.overlaps(prefix)), None)
     if near:
-        return f"no interface has exactly the subnet {prefix}: that of {near.name} is {near.address.network}"
+        return f"no interface has exactly the subnet {prefix}: that of {near[0].name} is {near[1]}"
     return f"no interface has the subnet {prefix}; a static route to Null0 originates nothing here"
 
 
 def _networks_of_ospf(network: Network) -> Iterator[Doubt]:
     for device in network.devices:
         for line in device.ospf.areas if device.ospf else ():
-            if not any(line.covers(interface.address.ip) for interface in device.up_interfaces):
+            if not any(line.covers(interface.own_address.ip) for interface in device.up_interfaces):
                 yield doubt("originates-nothing", device.name, line.line, _why_nothing_covered(device, line))
 
 
@@ -68,7 +68,7 @@ def _without_neighbour(network: Network) -> Iterator[Doubt]:
     adjacent = {id(end.interface) for link in network.links for end in (link.low, link.high)}
     for device in network.devices:
         for interface in device.up_interfaces:
-            is_wire = interface.kind != "Loopback" and interface.address.network.prefixlen < 32
+            is_wire = interface.kind != "Loopback" and interface.own_address.network.prefixlen < 32
             if is_wire and is_active(device, interface) and id(interface) not in adjacent:
                 yield doubt(
                     "no-neighbour", device.name, interface.lines["address"], _why_alone(network, device, interface)
@@ -76,7 +76,7 @@ def _without_neighbour(network: Network) -> Iterator[Doubt]:
 
 
 def _why_alone(network: Network, device: Device, interface: Interface) -> str:
-    name, subnet = interface.name, interface.address.network
+    name, subnet = interface.name, interface.own_address.network
     others = [end for end in network.wires[subnet] if end.device is not device]
     if others:
         return f"{name}: {_why_not_adjacent(others[0])}"

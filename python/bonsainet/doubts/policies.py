@@ -4,12 +4,16 @@ What is told holds for every route; an entry that is not told may still be reach
 """
 from __future__ import annotations
 
-from collections.abc import Iterator
+from collections.abc import Callable, Iterator, Sequence
 from ipaddress import IPv4Network
+from typing import TypeVar
 
 from bonsainet.doubts.finding import Doubt, doubt
 from bonsainet.configs.network import Network
 from bonsainet.configs.profile import CommunityLine, Device, MapEntry, Neighbor, PrefixEntry
+from bonsainet.configs.text import Line
+
+Entry = TypeVar("Entry", MapEntry, PrefixEntry, CommunityLine)
 
 
 def doubts_of_policies(network: Network) -> Iterator[Doubt]:
@@ -27,14 +31,15 @@ def _unused(device: Device) -> Iterator[Doubt]:
     for name, entries in device.maps.items():
         if name not in maps:
             yield doubt("unused", device.name, entries[0].line, f"no neighbour names the route map {name}")
-    for kind, lists, by_filter in (
-        ("prefix", device.prefix_lists, filters),
-        ("community", device.community_lists, set()),
-    ):
-        for name, lines in lists.items():
-            if name not in used[kind] | by_filter:
+    heads: dict[str, dict[str, Line]] = {
+        "prefix": {name: lines[0].line for name, lines in device.prefix_lists.items() if name not in filters},
+        "community": {name: lines[0].line for name, lines in device.community_lists.items()},
+    }
+    for kind, lists in heads.items():
+        for name, line in lists.items():
+            if name not in used[kind]:
                 who = "only maps that no neighbour names name" if name in named[kind] else "nothing names"
-                yield doubt("unused", device.name, lines[0].line, f"{who} the {kind} list {name}")
+                yield doubt("unused", device.name, line, f"{who} the {kind} list {name}")
 
 
 def _names(device: Device, maps: set[str]) -> dict[str, set[str]]:
@@ -51,8 +56,8 @@ def _names(device: Device, maps: set[str]) -> dict[str, set[str]]:
 def _not_reached(device: Device) -> Iterator[Doubt]:
     for name, entries in device.maps.items():
         yield from _behind_each(device, f"route map {name}", entries, _takes_all_of)
-    for name, entries in device.prefix_lists.items():
-        yield from _behind_each(device, f"prefix list {name}", entries, _holds_where)
+    for name, rungs in device.prefix_lists.items():
+        yield from _behind_each(device, f"prefix list {name}", rungs, _holds_where)
     for name, lines in device.community_lists.items():
         is_exact = any(
             entry.is_exact and name in entry.community_list_names
@@ -63,7 +68,9 @@ def _not_reached(device: Device) -> Iterator[Doubt]:
             yield from _behind_each(device, f"community list {name}", lines, _carries_less)
 
 
-def _behind_each(device, told, entries, takes) -> Iterator[Doubt]:
+def _behind_each(
+    device: Device, told: str, entries: Sequence[Entry], takes: Callable[[Entry, Entry], bool]
+) -> Iterator[Doubt]:
     """A doubt for each entry that an earlier one leaves nothing."""
     for place, entry in enumerate(entries):
         earlier = next((other for other in entries[:place] if takes(other, entry)), None)

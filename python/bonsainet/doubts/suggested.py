@@ -65,7 +65,7 @@ def _obstacle(network: Network, subnet: IPv4Network, name: str, stanza: Stanza) 
     device = network.by_name.get(name)
     if device is None:
         return "belongs to a router that the text has not"
-    is_up = any(interface.address.network == subnet for interface in device.up_interfaces)
+    is_up = any(interface.own_address.network == subnet for interface in device.up_interfaces)
     return None if is_up else "is not up in the text"
 
 

@@ -220,10 +220,10 @@ def _at(program: Program, small: Compressed, labels: dict[str, Label], name: str
     brought = [(far.device.name, _brought(program, small, labels, name, far)) for far in ends]
     giver = next((neighbour for neighbour, label in brought if label == held), "another")
     for neighbour, label in brought:
-        is_even = (
-            isinstance(label, BgpLabel) and label.preference == held.preference and len(label.path) == len(held.path)
-        )
-        if is_even and label != held and _is_beaten(program, small.text, {**labels, name: label}, name):
+        if not isinstance(label, BgpLabel) or label == held:
+            continue
+        is_even = label.preference == held.preference and len(label.path) == len(held.path)
+        if is_even and _is_beaten(program, small.text, {**labels, name: label}, name):
             yield HeldTie(name, held, giver, label, neighbour)
 
 

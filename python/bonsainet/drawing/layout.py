@@ -251,7 +251,8 @@ def label_of(node: Node) -> str:
 
 def _told(members: tuple[str, ...]) -> str:
     """The names, as far as they fit into a tip."""
-    told, length = [], 0
+    told: list[str] = []
+    length = 0
     for member in members:
         length += len(member) + 1
         if length > LONGEST_TIP:
@@ -289,7 +290,7 @@ def _labels(graph: Graph) -> bool:
 def _edge(edge: Edge, is_upright: bool, shows_labels: bool) -> dict[str, str]:
     is_cost = edge.at_low is not None and shows_labels
     label = [f"{edge.count} links"] if edge.count > 1 and not is_cost else []
-    looks = {}
+    looks: dict[str, str] = {}
     to_upper, to_lower = (edge.to_low, edge.to_high) if is_upright else (edge.to_high, edge.to_low)
     if shows_labels:
         label += edge.policies

@@ -19,7 +19,7 @@ class Direction:
 
 def direction(importer: End, exporter: End) -> Direction:
     """What stands in the way of routes from the exporter to the importer."""
-    near, far = importer.neighbor, exporter.neighbor
+    near, far = importer.own_neighbor, exporter.own_neighbor
     told, passes = [], True
     for end, name in ((exporter, far.map_out), (importer, near.map_in)):
         if name is not None:

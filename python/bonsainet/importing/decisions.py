@@ -178,12 +178,12 @@ def units(folder: Folder) -> Iterator[Unit]:
 def apply_drops(folder: Folder, guarded: dict[Place, str]) -> None:
     """Leaves out what the decisions drop, and keeps a note of it in the text. `guarded` says of which lines the drop
     makes another network."""
-    if not any(is_drop(found.verb) for found in folder.decisions.all):
+    if not any(is_drop(found.verb) for found in folder.own_decisions.all):
         return
     for router in folder.routers:
         kept = []
         for stanza in router.stanzas:
-            found = folder.decisions.drop_of(stanza.head)
+            found = folder.own_decisions.drop_of(stanza.head)
             if found and stanza.starts("hostname"):
                 folder.log.refuse(
                     stanza.head, PROTECTED, "without its name a router is none: leave its file out of the folder"

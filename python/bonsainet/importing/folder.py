@@ -85,6 +85,12 @@ class Folder:
     held: dict[str, str] = dataclasses.field(default_factory=dict)
 
     @property
+    def own_decisions(self) -> Decisions:
+        """The decisions of a folder on which the rules work."""
+        assert self.decisions
+        return self.decisions
+
+    @property
     def up(self) -> Up:
         """The up interfaces by their addresses."""
         return {
@@ -140,6 +146,13 @@ def address_of(stanza: Stanza) -> IPv4Interface | None:
         if line.words == ["shutdown"]:
             return None
     return address_given(stanza)
+
+
+def own_address_of(stanza: Stanza) -> IPv4Interface:
+    """The primary address of an interface that is up."""
+    found = address_of(stanza)
+    assert found
+    return found
 
 
 @functools.lru_cache(maxsize=65536)

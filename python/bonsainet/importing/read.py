@@ -270,7 +270,7 @@ def _routers_of_file(path: Path, name: str, folder: Folder, is_frr: bool, stem: 
             pieces.append([])
         else:
             pieces[-1].append(line)
-    found = []
+    found: list[Source] = []
     for piece in pieces:
         if not any(line.words[:1] in (["hostname"], ["interface"], ["router"], ["int"]) for line in piece):
             stray = [line for line in piece if not line.is_blank]

@@ -74,7 +74,7 @@ class Report:
     @property
     def text(self) -> str:
         """The report as text. What a terminal would obey, as lines and names of files can have it, is told by its number."""
-        log, unused = self.folder.log, self.folder.decisions.unused
+        log, unused = self.folder.log, self.folder.own_decisions.unused
         parts: list[tuple[str, list[list[str]]]] = [
             (
                 "Refused",
@@ -114,7 +114,7 @@ class Report:
             "told": [shown(remark) for remark in log.remarks],
             "unused": [
                 {"line": found.line, "verb": found.verb, "pattern": found.pattern}
-                for found in self.folder.decisions.unused
+                for found in self.folder.own_decisions.unused
             ],
             "warned": [shown(warning) for warning in log.warnings],
             "lines": [_plain(change) for change in self.shown_changes],

@@ -92,6 +92,7 @@ def run_plan(plan: Plan, seconds: float, quiet: float, before: float | None = No
     refuse_unless_small(len(plan.routers))
     request = {"plan": plan.text(), "seconds": seconds, "quiet": quiet, "before": seconds if before is None else before}
     with enclosed() as process:
+        assert process.stdin and process.stdout and process.stderr
         try:
             process.stdin.write(json.dumps(request) + "\n")
             process.stdin.flush()

@@ -2,6 +2,7 @@
 from __future__ import annotations
 
 from collections.abc import Mapping
+from typing import Any
 
 from bonsainet.ask.labels import BgpLabel, Label, OspfLabel
 from bonsainet.configs.network import Network
@@ -23,7 +24,7 @@ def accepted(device: Device, told: list[Mapping]) -> list[BgpLabel]:
     return [route_of(device, route) for route in told if route.get("valid")]
 
 
-def label_of(network: Network, device: Device, told: object) -> Label:
+def label_of(network: Network, device: Device, told: Any) -> Label:
     """The label of a router from what it holds for a prefix: the best route, or the cost."""
     if network.protocol == "ospf":
         return OspfLabel(told) if told is not None else None
@@ -31,6 +32,6 @@ def label_of(network: Network, device: Device, told: object) -> Label:
     return route_of(device, best[0]) if best else None
 
 
-def labels_of(network: Network, held: Mapping[str, Mapping[str, object]], prefix: str) -> dict[str, Label]:
+def labels_of(network: Network, held: Mapping[str, Mapping[str, Any]], prefix: str) -> dict[str, Label]:
     """The labels of all routers for a prefix."""
     return {device.name: label_of(network, device, held.get(device.name, {}).get(prefix)) for device in network.devices}

@@ -9,7 +9,7 @@ from bonsainet.lab.enclosure import MEBI
 from bonsainet.lab.imports import compare_imports
 from bonsainet.lab.lab import Case, Rested, Verdict, Waiting, case_of, case_with, export_told, judge, run_lab
 from bonsainet.lab.ties import run_with_ties
-from bonsainet.ask.labels import read_solution, solution_text
+from bonsainet.ask.labels import Label, read_solution, solution_text
 from bonsainet.ask.program import Program
 from bonsainet.cli.words import counted
 
@@ -56,7 +56,7 @@ def run_round(
     small_case = case_with(program, small_text, "compressed", large_case.of_class.prefixes)
     runs: list[Run] = []
     told: list[str] = []
-    ends = []
+    ends: list[Run] = []
     for name, case in (("large", large_case), ("small", small_case)):
         tell(f"{name}: {counted(len(case.network.devices), 'router')} on FRR")
         rested = run_lab(case, waiting, export_told(case, tell))
@@ -71,7 +71,8 @@ def run_round(
             run.imports, run.differing = compare_imports(program, case, run.rested)
             runs.append(run)
         ends.append(run)
-    found = Round(runs, told, *ends)
+    large, small = ends
+    found = Round(runs, told, large, small)
     if found.large.verdict.is_stable and found.small.verdict.is_stable:
         carry_back(program, found)
     return found
@@ -90,9 +91,12 @@ def carry_back(program: Program, found: Round) -> None:
             found.lifted = answer.reason
         carried = read_solution(lifted)
         for name, label in large.rested.labels[prefix].items():
-            lone = large.case.lone
-            if (label and label.key(lone)) != (carried[name] and carried[name].key(lone)):
+            if _key(large.case, label) != _key(large.case, carried[name]):
                 found.unequal.append(f"{name} {prefix}")
+
+
+def _key(case: Case, label: Label) -> tuple[object, ...] | None:
+    return label.key(case.lone) if label else None
 
 
 def table(found: Round) -> str:

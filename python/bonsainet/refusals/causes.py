@@ -21,7 +21,9 @@ IN_PROCESS = (["address-family", "ipv4"], ["address-family", "ipv4", "unicast"])
 class Refused(Protocol):
     """A refusal at the place of a line."""
 
-    place: int
+    @property
+    def place(self) -> int:
+        """The place, from 0."""
 
 
 def cause_of(kind: str, texts: list[str], place: int, refused: Sequence[Refused]) -> int | None:

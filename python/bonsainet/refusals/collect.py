@@ -140,7 +140,7 @@ def _entry(given: Input, number: int, found: Found, judged: str) -> Entry:
     part = given.parts[number]
     line = part.lines[found.place]
     above = openers(part.texts)[found.place]
-    scope = scope_under(None if above in (None, found.place) else part.lines[above].text)
+    scope = scope_under(None if above is None or above == found.place else part.lines[above].text)
     words = line.words
     because = part.lines[found.cause].place if found.cause is not None else None
     return Entry(

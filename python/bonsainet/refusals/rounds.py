@@ -40,11 +40,10 @@ def verdict(program: Program, text: str) -> Verdict | None:
     answer = program.ask("classes", "F", texts={"F": text})
     if answer.status == Status.DONE:
         return None
-    at_line = re.fullmatch(r"refused: line (\d+): (\w+)", answer.reason)
-    whole = re.fullmatch(r"refused: (\w+)", answer.reason)
-    if answer.status != Status.REFUSED or not (at_line or whole):
+    found = re.fullmatch(r"refused: (?:line (?P<line>\d+): )?(?P<kind>\w+)", answer.reason)
+    if answer.status != Status.REFUSED or not found:
         raise NotAnswered(answer, "classes")
-    return Verdict(at_line[2], int(at_line[1])) if at_line else Verdict(whole[1], None)
+    return Verdict(found["kind"], int(found["line"]) if found["line"] else None)
 
 
 class Rest:

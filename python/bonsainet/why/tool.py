@@ -5,12 +5,11 @@ import argparse
 from collections.abc import Iterable, Iterator
 
 from bonsainet.ask.accepted import a_class, class_of
-from bonsainet.cli.command_line import Refused, parser
+from bonsainet.cli.command_line import parser
 from bonsainet.configs.text import Line
 from bonsainet.diffing.reason_words import line_words
-from bonsainet.diffing.sides import network_at, place_of, say_changes
+from bonsainet.diffing.sides import network_at, place_of, refusing, say_changes
 from bonsainet.diffing.words import listed
-from bonsainet.library import BonsaiError, ImportRefused
 from bonsainet.library.calls import BONSAI, program
 from bonsainet.why.certificate import Reading
 from bonsainet.why.explain import Cause, Edge, Why, acts_words, why
@@ -49,19 +48,13 @@ def words() -> argparse.ArgumentParser:
 def main(argv: list[str] | None = None) -> int:
     """Runs the tool."""
     given = words().parse_args(argv)
-    try:
+    with refusing():
         decisions = place_of(given.decisions) if given.decisions else None
         network = network_at(place_of(given.network), decisions, given.own_as)
         say_changes(NAME, network)
         number = class_of(program(BONSAI).classes(network.raw), given.number, network.name).number
         reading = Reading.of_class(network.class_of(number))
         reason = why(reading, given.one, given.other)
-    except ImportRefused as refused:
-        raise Refused(
-            str(refused), [f"  {one.place}: {one.text}: {one.reason}" for one in refused.report.refused]
-        ) from None
-    except BonsaiError as fault:
-        raise Refused(str(fault)) from None
     print("\n".join(lines(reading, given.one, given.other, reason)))
     return 0
 

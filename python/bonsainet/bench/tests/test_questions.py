@@ -26,7 +26,7 @@ def answer(programs: dict[str, Path], folder: Path, text: str, *words: str) -> s
 
 
 def row(size: int, command: str, seconds: float, network: str = "fat-tree", links: int = 0) -> Row:
-    return Row(network, size, command, size, links or size, 4, 100, 5, 1.5, seconds, seconds, 3.0)
+    return Row(size, command, size, links or size, 4, 100, 5, 1.5, network, seconds, seconds, 3.0)
 
 
 @pytest.mark.parametrize("links", [preferring.around, preferring.in_a_row])

@@ -11,7 +11,7 @@ from bonsainet.bench.tables import growth, judgement, memory_text, turns_text
 def row(size: int, command: str, before: float, after: float, shape: str = "ospf-ring", **more: int) -> Row:
     told = {"links": size, "classes": 1, "bytes": 100 * size} | more
     return Row(
-        shape, size, command, size, told["links"], told["classes"], told["bytes"], 5, 1.5, ((before, 0.0), (after, 0.0))
+        size, command, size, told["links"], told["classes"], told["bytes"], 5, 1.5, shape, ((before, 0.0), (after, 0.0))
     )
 
 
@@ -89,7 +89,7 @@ def test_it_is_told_how_many_series_are_judged() -> None:
 
 def test_memory_of_both_states() -> None:
     made = [
-        Row("bgp-ring", 64, command, 64, 64, 1, 1000, 3, 1.5, ((before,), (after,)))
+        Row(64, command, 64, 64, 1, 1000, 3, 1.5, "bgp-ring", ((before,), (after,)))
         for command, before, after in (("classes", 20, 10.4), ("groups", 30, 31))
     ]
     text = memory_text(Table(MEMORY, Path("unused"), "told", made))

@@ -12,7 +12,8 @@ BGP = "hostname {0}\ninterface Serial0/0\n ip address 10.0.0.{1} 255.255.255.252
 
 
 def found(text: str) -> list[tuple[str, str, int, str]]:
-    return [(one.sort, one.router, one.place.line, one.told) for one in doubts_of_agreement(read_network(text, "F"))]
+    doubts = doubts_of_agreement(read_network(text, "F"))
+    return [(one.sort, one.router, one.place.line, one.told) for one in doubts if one.place]
 
 
 @pytest.mark.parametrize(

@@ -70,7 +70,7 @@ def test_the_tie_is_at_the_line_of_the_process() -> None:
     text = text_of({"m1 u": "route-map OUT out"}, {"m1": SETS})
     network = asked(Program(), text.encode(), "F")
     found = next(iter(doubts_of_ties(Program(), network, [1])))
-    assert text.split("\n")[found.place.line - 1] == "router bgp 65004" == found.text
+    assert found.place and text.split("\n")[found.place.line - 1] == "router bgp 65004" == found.text
 
 
 def test_lone_numbers_decide() -> None:
@@ -162,5 +162,7 @@ def test_the_compressed_network_has_the_ties_of_the_whole(seed: int) -> None:
     alone = [Group(place, False, False, (device.name,)) for place, device in enumerate(whole.network.devices, 1)]
     large = dataclasses.replace(small, groups=alone, text=whole.text, network=whole.network)
     members = {group.members[0]: group.members for group in small.groups}
-    of_small = {(member, tie.decided) for tie in ties_of(Program(), small) for member in members[tie.router]}
-    assert of_small == {(tie.router, tie.decided) for tie in ties_of(Program(), large)}
+    of_small, of_large = ties_of(Program(), small), ties_of(Program(), large)
+    assert isinstance(of_small, list) and isinstance(of_large, list)
+    of_members = {(member, tie.decided) for tie in of_small for member in members[tie.router]}
+    assert of_members == {(tie.router, tie.decided) for tie in of_large}

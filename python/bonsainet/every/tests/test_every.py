@@ -62,12 +62,12 @@ def test_a_folder_that_has_anything_and_a_folder_of_another_text(tmp_path: Path)
 
 
 def test_a_job_that_fails_is_told_and_asked_again(tmp_path: Path) -> None:
-    words = ["bonsai-every", place_of("fabric.cfg"), tmp_path / "all", "--then", f"test -e {tmp_path}/there && wc -l"]
-    ran = tool(*words)
+    words = [place_of("fabric.cfg"), tmp_path / "all", "--then", f"test -e {tmp_path}/there && wc -l"]
+    ran = tool("bonsai-every", *words)
     assert ran.returncode == 1 and b"0 of 2 answered; " in ran.stderr
     assert not (tmp_path / "all" / "class-1.out").exists()
     (tmp_path / "there").touch()
-    assert tool(*words, "--resume").returncode == 0
+    assert tool("bonsai-every", *words, "--resume").returncode == 0
     assert (tmp_path / "all" / "class-1.out").read_text().strip() == "75"
 
 
@@ -184,7 +184,7 @@ def machines(tmp_path: Path) -> Iterator[tuple[str, str]]:
 def _wait_for(config: Path) -> None:
     """Waits until the ssh servers that the test started answer."""
     for name in ("east", "west"):
-        command = ["ssh", "-F", config, name, "true"]
+        command = ["ssh", "-F", str(config), name, "true"]
         wait_for(
             lambda: not subprocess.run(command, stdin=subprocess.DEVNULL, capture_output=True, check=False).returncode
         )

@@ -104,7 +104,7 @@ def _fastest(end: Active) -> int | None:
 def _is_given(folder: Folder, end: Active) -> bool:
     """Whether a line or a person gives the cost or the bandwidth of an interface."""
     line, name = first(end.stanza, "ip", "address") or end.stanza.head, name_of(end.stanza)
-    is_decided = any(folder.decisions.find(verb, line, name) for verb in ("cost", "bandwidth"))
+    is_decided = any(folder.own_decisions.find(verb, line, name) for verb in ("cost", "bandwidth"))
     return is_decided or has(end.stanza, "ip", "ospf", "cost") or has(end.stanza, "bandwidth")
 
 
@@ -123,7 +123,7 @@ def _write_cost(folder: Folder, router: Source, stanza: Stanza) -> None:
     name = name_of(stanza)
     line = first(stanza, "ip", "address") or stanza.head
     at = stanza.body.index(line) + 1
-    if decided := folder.decisions.find("cost", line, name) or folder.decisions.find("bandwidth", line, name):
+    if decided := folder.own_decisions.find("cost", line, name) or folder.own_decisions.find("bandwidth", line, name):
         cost = int(decided.value) if decided.verb == "cost" else _cost(router, int(decided.value))
         folder.log.by(line, DECIDED_COST)
         folder.log.assume(line.with_text(f"{decided.verb} of {name} is {decided.value}"), decided.reason)

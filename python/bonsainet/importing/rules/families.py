@@ -1,6 +1,8 @@
 """Address families of a BGP process: the lines of IPv4 unicast are lifted, the other families are cut."""
 from __future__ import annotations
 
+import functools
+
 from bonsainet.importing.folder import Dialect, Folder, Source, an_address, has
 from bonsainet.importing.rewriting import begins, cut_lines
 from bonsainet.importing.rule import rule
@@ -113,7 +115,7 @@ def activate(folder: Folder, _options: Options) -> None:
                     IPV6_PEER,
                     "a neighbour without an IPv4 address can carry IPv4 routes here, and the profile has no such sessions",
                 )
-        cut_lines(process, folder.log, ACTIVATION, lambda line, inactive=inactive: _goes(line, inactive))
+        cut_lines(process, folder.log, ACTIVATION, functools.partial(_goes, inactive=inactive))
 
 
 def _named(process: Stanza, *head: str) -> set[str]:

@@ -218,8 +218,8 @@ def _matched(line: Line, name_for: NameFor) -> tuple[Rule, list[str]] | None:
     words = line.words
     if words[:3] != ["match", "ip", "address"] or words[3:4] in ([], ["prefix-list"], ["prefix-len"]):
         return None
-    names = [name_for(word, line) for word in words[3:]]
-    return (ACCESS, [f"match ip address prefix-list {' '.join(names)}"]) if all(names) else None
+    names = [name for word in words[3:] if (name := name_for(word, line))]
+    return (ACCESS, [f"match ip address prefix-list {' '.join(names)}"]) if len(names) == len(words[3:]) else None
 
 
 def _prefix_list(

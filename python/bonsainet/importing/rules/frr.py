@@ -1,6 +1,7 @@
 """FRR's syntax and defaults, written in the words of the profile."""
 from __future__ import annotations
 
+import functools
 import re
 from collections.abc import Iterator
 
@@ -65,7 +66,7 @@ def bodies(folder: Folder, _options: Options) -> None:
         for stanza in router.stanzas:
             if stanza.starts("interface"):
                 seen: list[str] = []
-                rewrite(stanza, folder.log, lambda line, seen=seen: _in_interface(line, seen))
+                rewrite(stanza, folder.log, functools.partial(_in_interface, seen=seen))
             elif stanza.starts("router", "bgp"):
                 rewrite(stanza, folder.log, _in_bgp)
             elif stanza.starts("router", "ospf"):

@@ -58,11 +58,11 @@ def _unfold(folder: Folder, process: Stanza) -> None:
     for peer, lines in own.items():
         if peer in groups:
             continue
-        group = members.get(peer)
-        if group is not None and group not in groups:
+        joined = members.get(peer)
+        if joined is not None and joined not in groups:
             for line in lines[:1]:
-                folder.log.refuse(line, "peer-group", f"the peer group {group} is not defined")
-        inherited = own.get(group, []) if group in groups else []
+                folder.log.refuse(line, "peer-group", f"the peer group {joined} is not defined")
+        inherited = own.get(joined, []) if joined in groups else []
         lines = _merged(folder, peer, lines, inherited)
         lines.sort(key=lambda line: line.words[2:3] != ["remote-as"])
         unfolded += lines

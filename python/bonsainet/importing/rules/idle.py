@@ -49,7 +49,7 @@ def cut_idle(folder: Folder, _options: Options) -> None:
 def _is_cut(folder: Folder, router: Source, stanza: Stanza) -> bool:
     scope = scope_of(stanza)
     if scope:
-        rewrite(stanza, folder.log, lambda line: _decision(folder, line, scope))
+        rewrite(stanza, folder.log, functools.partial(_decision, folder, scope=scope))
         return False
     found = subject_of(stanza.head, "top")
     if stanza.head.is_blank or not found or folder.takes("top", stanza.head.text):

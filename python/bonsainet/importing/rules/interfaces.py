@@ -168,11 +168,11 @@ def _with_interface(
 ) -> Stanza | None:
     """The OSPF process. An area that stands on the interface takes in its secondary addresses too, unless it says
     `secondaries none`."""
-    process = router.process("ospf")
-    for found in list(process.body) if process else []:
-        is_of_interface = AREA in folder.log.touched.get(found.place, []) and found.words[1:2] == [
-            str(address_of(stanza).ip)
-        ]
+    process, own = router.process("ospf"), address_of(stanza)
+    if not process or not own:
+        return process
+    for found in list(process.body):
+        is_of_interface = AREA in folder.log.touched.get(found.place, []) and found.words[1:2] == [str(own.ip)]
         if is_of_interface and folder.raw.get(found.place, "").split()[-2:] != ["secondaries", "none"]:
             process.body.append(indented(line, f"network {address.ip} 0.0.0.0 area {found.words[4]}"))
             break

@@ -141,9 +141,9 @@ def prefix_list(router: Source, name: str) -> list[Rung] | None:
         if stanza.head.words[3:4] == ["description"]:
             continue
         match = PREFIX_LINE.fullmatch(" ".join(stanza.head.words))
-        if not match:
+        prefix = a_prefix(match[4]) if match else None
+        if not match or not prefix:
             return None
-        prefix = a_prefix(match[4])
         least = int(match[5]) if match[5] else prefix.prefixlen
         most = int(match[6]) if match[6] else 32 if match[5] else prefix.prefixlen
         found.append(Rung(int(match[2]), match[3] == "permit", prefix, least, most))
@@ -160,12 +160,12 @@ def match_holds(router: Source, words: list[str], prefix: IPv4Network, interface
     for something else, or names a list that is not known."""
     if words[:4] == ["match", "ip", "address", "prefix-list"]:
         lists = [prefix_list(router, name) for name in words[4:]]
-        return None if any(found is None for found in lists) else any(prefix_permits(found, prefix) for found in lists)
+        known = [found for found in lists if found is not None]
+        return None if len(known) < len(lists) else any(prefix_permits(found, prefix) for found in known)
     if words[:3] == ["match", "ip", "address"]:
         access = [access_list(router, name) for name in words[3:]]
-        return (
-            None if any(found is None for found in access) else any(access_permits(found, prefix) for found in access)
-        )
+        defined = [found for found in access if found is not None]
+        return None if len(defined) < len(access) else any(access_permits(found, prefix) for found in defined)
     if words[:2] != ["match", "interface"] or not interface:
         return None
     return interface in words[2:] or interface.partition(":")[0] in words[2:]

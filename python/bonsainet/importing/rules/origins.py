@@ -2,6 +2,7 @@
 from __future__ import annotations
 
 import dataclasses
+import functools
 from collections import defaultdict
 from collections.abc import Iterator
 from ipaddress import IPv4Address, IPv4Network
@@ -170,7 +171,7 @@ def mapped(folder: Folder, _options: Options) -> None:
                 for line in process.body
                 if line.words[:1] == ["network"] and line.words[-2:-1] == ["route-map"]
             )
-            rewrite(process, folder.log, lambda line, router=router: _mapped(folder, router, line))
+            rewrite(process, folder.log, functools.partial(_mapped, folder, router))
             for name in names:
                 filters.leave_out_spent(folder, router, name)
 
@@ -236,7 +237,7 @@ def _originate(
         )
         return
     overlap = next(
-        (stanza for stanza in router.interfaces if address_of(stanza) and address_of(stanza).network.overlaps(prefix)),
+        (stanza for stanza in router.interfaces if (own := address_of(stanza)) and own.network.overlaps(prefix)),
         None,
     )
     address = _free_address(prefix, taken)

@@ -315,13 +315,8 @@ def _loopback(folder: Folder, router: Source, stanza: Stanza) -> None:
     if is_wire or not router.is_loopback(stanza):
         _as_vlan(folder, router, stanza, given)
         return
-    rewrite(
-        stanza,
-        folder.log,
-        lambda line: (LOOPBACK_HOST, [f"ip address {address.ip} 255.255.255.255"])
-        if line.words[:2] == ["ip", "address"]
-        else None,
-    )
+    host = f"ip address {address.ip} 255.255.255.255"
+    rewrite(stanza, folder.log, lambda line: (LOOPBACK_HOST, [host]) if line.words[:2] == ["ip", "address"] else None)
 
 
 def _as_vlan(folder: Folder, router: Source, stanza: Stanza, given: Line | None) -> None:

@@ -29,9 +29,9 @@ def renumber(folder: Folder, options: Options) -> None:
     shared = {number: routers for number, routers in sharing.items() if len(routers) > 1}
     if not options.own_as:
         for number, routers in shared.items():
-            for router in routers[1:]:
+            for process in filter(None, (router.process("bgp") for router in routers[1:])):
                 folder.log.refuse(
-                    router.process("bgp").head,
+                    process.head,
                     SHARED,
                     f"{routers[0].name} has the AS number {number} too, and the profile has one for each router: --own-as gives each its own, and then routes pass between them that the devices' loop check drops",
                 )

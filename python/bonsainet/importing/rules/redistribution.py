@@ -1,6 +1,7 @@
 """Redistribution that brings in nothing: it is cut. What brings in routes is a person's to decide."""
 from __future__ import annotations
 
+import functools
 from collections.abc import Iterator
 from ipaddress import IPv4Network
 
@@ -37,12 +38,7 @@ def nothing(folder: Folder, _options: Options) -> None:
     for router in folder.routers:
         for process in router.with_head("router"):
             if process.starts("router", "bgp") or process.starts("router", "ospf"):
-                cut_lines(
-                    process,
-                    folder.log,
-                    NOTHING,
-                    lambda line, process=process, router=router: _is_nothing(router, process, line),
-                )
+                cut_lines(process, folder.log, NOTHING, functools.partial(_is_nothing, router, process))
 
 
 def behind_connected(folder: Folder, _options: Options) -> None:

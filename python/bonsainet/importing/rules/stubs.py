@@ -4,7 +4,7 @@ from __future__ import annotations
 from ipaddress import IPv4Address, IPv4Network
 
 from bonsainet.cli.command_line import Refused
-from bonsainet.importing.folder import Folder, Source, address_of, as_number
+from bonsainet.importing.folder import Folder, Source, as_number, own_address_of
 from bonsainet.importing.rules.neighbors import Peer, peers_of
 from bonsainet.importing.rules.options import Options
 from bonsainet.configs.text import Line, Place, Stanza
@@ -29,15 +29,15 @@ def _add(folder: Folder, address: IPv4Address, prefixes: tuple[IPv4Network, ...]
     peers = [peer for router in folder.routers for peer in peers_of(router, up) if peer.address == address]
     if not peers:
         raise Refused(f"--stub {address}: no neighbour line names this address")
-    if any(peer.far for peer in peers):
-        raise Refused(f"--stub {address}: {peers[0].far[0].name} in the folder has this address")
+    if far := next((peer.far[0] for peer in peers if peer.far), None):
+        raise Refused(f"--stub {address}: {far.name} in the folder has this address")
     numbers = {as_number(line.words[3]) for peer in peers if (line := peer.line("remote-as"))}
     if len(numbers) != 1 or None in numbers:
         raise Refused(f"--stub {address}: the neighbour lines give it several AS numbers, or none")
-    near = next((peer for peer in peers if peer.near), None)
+    near = next((peer.near for peer in peers if peer.near), None)
     if near is None:
         raise Refused(f"--stub {address}: no router has an interface in its subnet")
-    folder.routers.append(_stub(folder, address, prefixes, numbers.pop(), [peer for peer in peers if peer.near], near))
+    folder.routers.append(_stub(folder, address, prefixes, numbers.pop(), peers, near))
     folder.log.remarks.append(f"--stub: a router at {address} announces {', '.join(map(str, prefixes))}")
 
 
@@ -47,7 +47,7 @@ def _stub(
     prefixes: tuple[IPv4Network, ...],
     number: int | None,
     peers: list[Peer],
-    near: Peer,
+    near: Stanza,
 ) -> Source:
     name = f"stub-{address}"
     place = Place(name, 0)
@@ -55,7 +55,7 @@ def _stub(
     def line(text: str) -> Line:
         return Line(text, place)
 
-    link = address_of(near.near)
+    link = own_address_of(near)
     stanzas = [
         Stanza(line(f"hostname {name}")),
         Stanza(line(f"! assumed: a router at {address} that announces these prefixes (--stub)")),
@@ -82,6 +82,6 @@ def _stub(
             raise Refused(f"--stub {address}: no address of {prefix} is free")
         stanzas.append(Stanza(line(f"interface Vlan{count}"), [line(f" ip address {host} {prefix.netmask}")]))
         process.body.append(line(f" network {prefix.network_address} mask {prefix.netmask}"))
-    for peer in peers:
-        process.body.append(line(f" neighbor {address_of(peer.near).ip} remote-as {peer.router.number}"))
+    for peer, end in ((peer, peer.near) for peer in peers if peer.near):
+        process.body.append(line(f" neighbor {own_address_of(end).ip} remote-as {peer.router.number}"))
     return Source(name, [*stanzas, process], file=name, is_stub=True)

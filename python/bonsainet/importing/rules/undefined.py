@@ -64,7 +64,7 @@ def _is_defined(router: Source, kind: str, name: str) -> bool:
 
 
 def _define(folder: Folder, router: Source, kind: str, name: str, line: Line) -> None:
-    decided = folder.decisions.find("undefined", line, name)
+    decided = folder.own_decisions.find("undefined", line, name)
     if not decided or kind == "access" or (kind == "community" and decided.value == "permit"):
         more = "; a community list cannot permit all in the profile" if decided and kind == "community" else ""
         folder.log.refuse(

@@ -12,16 +12,16 @@ from bonsainet.importing.read import read_folder
 from bonsainet.importing.report import Silent, report_of
 from bonsainet.importing.rules.options import Options
 from bonsainet.importing.tool import work
-from bonsainet.ask.program import TOP, Refusal
+from bonsainet.ask.program import TOP, Program, Refusal
 
 CONFIGURATIONS = sorted((TOP / "examples" / "folders").rglob("configs/*"))
 WORDS = ("x", "0", "10.0.0.1", "99999999999", "-1", "a/b", "1.2.3.4/40", "::1")
 
 
-class AcceptsAll:
+class AcceptsAll(Program):
     """A program that refuses nothing, so that the rules alone are tried."""
 
-    def refusal(self, _text: str) -> Refusal | None:
+    def refusal(self, text: str | bytes) -> Refusal | None:
         """No refusal."""
         return None
 

@@ -97,7 +97,12 @@ def test_files_of_frr(tmp_path: Path) -> None:
 
 
 def test_files_without_a_router_are_told_at_once_or_left_out(tmp_path: Path) -> None:
-    files = {"a_cfg": PLAIN, "inventory_txt": "a 10.0.0.1\n", "site__hosts_txt": "hosts\n", "blob": b"\0"}
+    files: dict[str, bytes | str] = {
+        "a_cfg": PLAIN,
+        "inventory_txt": "a 10.0.0.1\n",
+        "site__hosts_txt": "hosts\n",
+        "blob": b"\0",
+    }
     with pytest.raises(Refused, match="3 files cannot be read as routers; .* left out by --skip") as refused:
         folder_of(tmp_path, **files)
     assert refused.value.details == [

@@ -3,6 +3,7 @@ from __future__ import annotations
 
 import re
 import tempfile
+from collections.abc import Callable
 from pathlib import Path
 
 import pytest
@@ -17,9 +18,10 @@ from bonsainet.importing.tool import import_folder
 from bonsainet.ask.program import Program
 from bonsainet.configs.text import Router, text_of
 
+Unwriting = Callable[[Router], None]
 ROUNDS = "*\n" * 6
 FEW = settings(max_examples=12, deadline=None, suppress_health_check=list(HealthCheck), derandomize=True)
-OF_BGP = (
+OF_BGP: tuple[Unwriting, ...] = (
     unwrite.families,
     unwrite.groups,
     unwrite.templates,
@@ -41,7 +43,7 @@ OF_BGP += (
     unwrite_more.static_routes,
     unwrite_more.idle_addresses,
 )
-OF_OSPF = (
+OF_OSPF: tuple[Unwriting, ...] = (
     unwrite.interface_areas,
     unwrite.point_to_point,
     unwrite.by_bandwidth,
@@ -65,7 +67,7 @@ OF_OSPF += (
 def answers(program: Program, text: str) -> list[tuple[object, ...]]:
     """What the program says of a text: for each class its prefixes, originators, groups and labels after some
     rounds."""
-    found = []
+    found: list[tuple[object, ...]] = []
     for one in program.classes(text):
         number = str(one.number)
         labels = program.done("run", "F", number, "S", texts={"F": text, "S": ROUNDS})

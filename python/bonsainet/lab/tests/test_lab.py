@@ -11,7 +11,7 @@ from bonsainet.lab.plan import Plan, daemon_files, plan_of
 from bonsainet.lab.rest import NoRest, adjacencies_missing
 from bonsainet.lab.ties import ranks_of
 from bonsainet.ask.labels import BgpLabel, OspfLabel, read_solution, solution_text
-from bonsainet.configs.network import read_network
+from bonsainet.configs.network import Network, read_network
 from bonsainet.ask.program import TOP
 
 NUMBER = st.integers(1, 4294967295)
@@ -22,7 +22,7 @@ BGP_LABELS = st.builds(
 LABELS = st.none() | BGP_LABELS | st.builds(OspfLabel, NUMBER)
 
 
-def example(name: str) -> object:
+def example(name: str) -> Network:
     return read_network((TOP / "examples" / "inputs" / name).read_text(), name)
 
 

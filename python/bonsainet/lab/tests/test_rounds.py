@@ -1,6 +1,7 @@
 """Rounds without routers: the table, the imports that are compared, the figures of pages, and what a lab refuses."""
 import json
 import shutil
+from collections.abc import Mapping
 from pathlib import Path
 
 import pytest
@@ -39,7 +40,7 @@ def fake(answers: dict[str, Answer], asked: list | None = None) -> Program:
             self.path = "none"
             self.identity = Identity("0" * 64, True, "kit-1")
 
-        def ask(self, *words: str, texts: dict | None = None, seconds: float | None = None) -> Answer:
+        def ask(self, *words: str, texts: Mapping | None = None, seconds: float | None = None) -> Answer:
             if asked is not None:
                 asked.append((words, texts))
             return answers[words[0]]
@@ -98,9 +99,9 @@ def test_a_tie_is_told_where_a_better_key_was_accepted() -> None:
         }
     }
     rested = rested_with(LABELS, held)
-    assert tie_at(case, rested, PREFIX, "b").endswith("the model chooses by communities")
+    assert (tie_at(case, rested, PREFIX, "b") or "").endswith("the model chooses by communities")
     program = fake({"check": Answer(6, b"", b"not stable: b better-candidate\n")})
-    assert judge(program, case, rested).tie.startswith("b: FRR chose by age")
+    assert (judge(program, case, rested).tie or "").startswith("b: FRR chose by age")
     assert tie_at(case, rested_with(LABELS, {"b": {PREFIX: [told([3, 1], "10.0.1.1")]}}), PREFIX, "b") is None
 
 

@@ -6,6 +6,7 @@ import re
 import shutil
 from collections.abc import Iterator
 from pathlib import Path
+from typing import Any
 
 import pytest
 
@@ -194,7 +195,7 @@ def test_both_forms_of_a_report_say_the_same(tmp_path: Path) -> None:
     room.mkdir()
     (room / "a.cfg").write_text("hostname a\nclock timezone Z 0\nrouter bgp 1\n neighbor 192.0.2.9 remote-as 2\nend\n")
     told = []
-    for form in ([], ["--json"]):
+    for form in ((), ("--json",)):
         assert tool("bonsai-import", room, "--report", tmp_path / "report", *form).returncode == 0
         found = read_report(str(tmp_path / "report"))
         told.append((found["refused"], found["assumed"], found["told"], found["warned"], len(found["lines"])))
@@ -236,13 +237,13 @@ def browser() -> Iterator[object]:
     opened.quit()
 
 
-def shown(browser: object, wanted: str) -> list[str]:
+def shown(browser: Any, wanted: str) -> list[str]:
     return browser.execute_script(
         f"return Array.from(document.querySelectorAll({json.dumps(wanted)})).filter(e => e.offsetParent !== null).map(e => e.textContent.trim())"
     )
 
 
-def test_sorting_searching_and_opening(browser: object, tmp_path: Path) -> None:
+def test_sorting_searching_and_opening(browser: Any, tmp_path: Path) -> None:
     place = tmp_path / "campus.html"
     place.write_text(page("campus.cfg"))
     browser.get(place.as_uri())
@@ -271,14 +272,14 @@ def test_sorting_searching_and_opening(browser: object, tmp_path: Path) -> None:
     assert shown(browser, "#open button.copy")[0] in ("Copied", "Selected: copy with the keyboard")
 
 
-def test_a_name_in_the_address_opens_its_class(browser: object, tmp_path: Path) -> None:
+def test_a_name_in_the_address_opens_its_class(browser: Any, tmp_path: Path) -> None:
     place = tmp_path / "campus.html"
     place.write_text(page("campus.cfg"))
     browser.get(place.as_uri() + "#class-12")
     assert shown(browser, "#open h2") == ["Class 12"]
 
 
-def test_the_fat_tree_of_twenty_is_small_and_opens_soon(browser: object, tmp_path: Path) -> None:
+def test_the_fat_tree_of_twenty_is_small_and_opens_soon(browser: Any, tmp_path: Path) -> None:
     text = tmp_path / "fat-tree-20.cfg"
     text.write_text(fat_tree_text(20))
     place = tmp_path / "fat-tree-20.html"

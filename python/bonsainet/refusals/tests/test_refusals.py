@@ -16,7 +16,7 @@ from bonsainet.lines.examples import TEXTS
 from bonsainet.ask.program import TOP, Program
 from bonsainet.ask.where import without_notices
 from bonsainet.refusals.causes import cause_of
-from bonsainet.refusals.collect import Refusals, collect
+from bonsainet.refusals.collect import Entry, Refusals, collect
 from bonsainet.refusals.layout import Input, parts_of, read, stanza_at
 from bonsainet.refusals.rounds import Found, verdict
 from bonsainet.tests.asking import bytes_of, slow_program, tool, wait_for
@@ -33,18 +33,21 @@ def refusals(text: str) -> Refusals:
 
 def told(text: str) -> list[tuple[int, str, str]]:
     """Line, kind and text judged of each refusal."""
-    return [(entry.line.place.line, entry.kind, entry.judged) for entry in refusals(text).entries]
+    return [(line_of(entry), entry.kind, entry.judged) for entry in refusals(text).entries]
+
+
+def line_of(entry: Entry) -> int:
+    """The number of the line that an entry names."""
+    assert entry.line
+    return entry.line.place.line
 
 
 @pytest.mark.parametrize("kind", TEXTS)
 def test_the_first_is_that_of_the_program(kind: str) -> None:
     own = verdict(Program(), TEXTS[kind])
     found = refusals(TEXTS[kind])
-    assert (found.entries[0].kind, found.entries[0].line.place.line, found.entries[0].judged) == (
-        own.kind,
-        own.line,
-        "the whole text",
-    )
+    first = found.entries[0]
+    assert own and (first.kind, line_of(first), first.judged) == (own.kind, own.line, "the whole text")
     assert found.not_judged is None
 
 
@@ -73,7 +76,7 @@ def test_a_top_line_goes_with_its_stanza() -> None:
 def test_consequences() -> None:
     lines = " neighbor 10.0.0.2 send-community\n neighbor 10.0.0.2 route-map IN in\nroute-map IN permit\n"
     found = refusals(A.replace("remote-as 2", "remote-as two").replace("end\n", lines + "end\n"))
-    assert [(entry.line.place.line, entry.kind, entry.because and entry.because.line) for entry in found.entries] == [
+    assert consequences(found) == [
         (5, "BadForm", None),
         (6, "Misplaced", 5),
         (7, "Misplaced", 5),
@@ -128,16 +131,15 @@ def test_many_routers_side_by_side() -> None:
     text = fat_tree_text(8).replace("end\n", "ip route x\nmpls ip\nend\n")
     found = refusals(text)
     assert len(found.entries) == 2 * 80
-    assert [entry.line.place.line for entry in found.entries] == sorted(
-        entry.line.place.line for entry in found.entries
-    )
+    assert [line_of(entry) for entry in found.entries] == sorted(line_of(entry) for entry in found.entries)
 
 
 def test_a_folder_has_its_files_and_lines(tmp_path) -> None:
     (tmp_path / "a.txt").write_text(A.replace("end\n", "mpls ip\nend\n"))
     (tmp_path / "b.txt").write_text(B.replace("end\n", "mpls ip\nend\n"))
     found = collect(Program(), read(str(tmp_path)))
-    assert [(entry.line.place.file, entry.line.place.line) for entry in found.entries] == [("a.txt", 6), ("b.txt", 6)]
+    places = [entry.line.place for entry in found.entries if entry.line]
+    assert [(place.file, place.line) for place in places] == [("a.txt", 6), ("b.txt", 6)]
 
 
 def test_the_command() -> None:
@@ -191,8 +193,8 @@ def test_each_line_that_was_put_in_is_told(inside: dict[int, str], at_top: dict[
     text = "".join(f"{line}\n" for line in lines)
     found = refusals(text).entries
     own = verdict(Program(), text)
-    assert sorted(entry.line.place.line for entry in found) == expected
-    assert (own.line, own.kind) == (found[0].line.place.line, found[0].kind) if own else not found
+    assert sorted(line_of(entry) for entry in found) == expected
+    assert (own.line, own.kind) == (line_of(found[0]), found[0].kind) if own else not found
 
 
 @pytest.mark.parametrize("sort", ["--json", ""])
@@ -219,6 +221,7 @@ def test_an_interrupt_is_one_line(tmp_path) -> None:
         start_new_session=True,
         env={**os.environ, "BONSAI_PROGRAM": str(tmp_path / "slow")},
     ) as ran:
+        assert ran.stdin and ran.stdout and ran.stderr
         ran.stdin.write(text.encode())
         ran.stdin.close()
         wait_for(lambda: asked.exists() and asked.read_bytes().count(b"\n") > 4)
@@ -229,9 +232,12 @@ def test_an_interrupt_is_one_line(tmp_path) -> None:
 
 def because(text: str) -> list[tuple[int, str, int | None]]:
     """Line, kind and the line of which it is the consequence."""
-    return [
-        (entry.line.place.line, entry.kind, entry.because and entry.because.line) for entry in refusals(text).entries
-    ]
+    return consequences(refusals(text))
+
+
+def consequences(found: Refusals) -> list[tuple[int, str, int | None]]:
+    """The same of refusals that were collected."""
+    return [(line_of(entry), entry.kind, entry.because.line if entry.because else None) for entry in found.entries]
 
 
 def test_an_interface_of_a_vrf_that_joins_the_global_table() -> None:
@@ -277,10 +283,11 @@ def test_bytes_are_told_as_a_person_reads_them(coding: str, tmp_path) -> None:
     name = os.fsencode(tmp_path / "in") + b"\xff.cfg"
     with open(name, "wb") as file:
         file.write(b"hostname a\nmpls caf\xe9\nend\n")
-    for words in ([name], [name, "--json"], [tmp_path], [tmp_path, "--json"]):
-        command = [str(TOP / "tools" / "bonsai-refusals"), *words]
+    given = (name, os.fsencode(tmp_path))
+    for words in [(one, *form) for one in given for form in ((), (b"--json",))]:
+        command = [os.fsencode(TOP / "tools" / "bonsai-refusals"), *words]
         ran = subprocess.run(command, capture_output=True, check=False, env={**os.environ, "PYTHONIOENCODING": coding})
-        escape = b"\\\\" if "--json" in words else b"\\"
+        escape = b"\\\\" if b"--json" in words else b"\\"
         assert ran.returncode == 1 and without_notices(ran.stderr).count(b"\n") == 1
         assert (
             (b"mpls caf" + escape + b"xe9") in ran.stdout
