@@ -5,3 +5,6 @@ mod ShutEnds
 mod Renumbered
 mod ShutProblem
 mod SameClasses
+mod Faultless
+mod OneSession
+mod OneLinkShut

@@ -12,10 +12,11 @@ use Rattle.cfg_ast.specs.declared.topology.Link.{Link}
 use Rattle.cfg_ast.specs.meaning.Classes.{classes_of}
 use Rattle.cfg_ast.specs.meaning.RouterFaults.{protocol_of}
 use Rattle.cfg_ast.specs.meaning.Topology.{links_of}
+use Rattle.cfg_ast.specs.text.Reading.{IsGiven}
 use Rattle.cfg_check.specs.Faultless.{IsFaultless}
 use Rattle.srp_core.specs.Problem.{Problem}
 use Rattle.srp_core.specs.ProblemOf.{IsProblemOf}
-use Rattle.srp_core.specs.Without.{Down, IsWithout}
+use Rattle.srp_core.specs.Without.{Down, IsWithout, nothing_down, with_link_down}
 
 -- the item at the place, changed
 abbrev pub changed_at : {X : Type 0} → (X → X) → ℕ → List X → List X
@@ -61,6 +62,24 @@ abbrev pub ShutdownIsWithout : Type 0
 ShutdownIsWithout = (n : Network) (prefix : Prefix) (problem other : Problem) (router item : ℕ) → IsFaultless n → problem.protocol ≡ OverBgp
     → IsProblemOf n prefix problem → IsWithout problem (down_at n router item) other
     → IsProblemOf (with_shutdown n router item) prefix (renumbered (number_left n router item) other)
+
+-- In BGP a neighbour is an end of at most one link.
+abbrev pub NeighborEndsOneLink : Type 0
+NeighborEndsOneLink = (n : Network) (router item number other_number : ℕ) (link other : Link) → ∥ IsGiven n ∥₁ → IsFaultless n → protocol_of n ≡ Some OverBgp
+    → slice_get (links_of n) number ≡ Some link → slice_get (links_of n) other_number ≡ Some other → is_end router item link ≡ true
+    → is_end router item other ≡ true → number ≡ other_number
+
+-- A BGP problem without one link is, but for the numbers of links, the problem of the network in which the neighbour at
+-- an end of the link has `shutdown`.
+abbrev pub ShutdownIsWithoutLink : Type 0
+ShutdownIsWithoutLink = (n : Network) (prefix : Prefix) (problem other : Problem) (router item number : ℕ) (link : Link) → ∥ IsGiven n ∥₁ → IsFaultless n
+    → problem.protocol ≡ OverBgp → IsProblemOf n prefix problem → slice_get (links_of n) number ≡ Some link → is_end router item link ≡ true
+    → IsWithout problem (with_link_down number nothing_down) other
+    → IsProblemOf (with_shutdown n router item) prefix (renumbered (number_left n router item) other)
+
+-- No fault stands in that network if none stood before.
+abbrev pub ShutdownKeepsFaultless : Type 0
+ShutdownKeepsFaultless = (n : Network) (router item : ℕ) → IsFaultless n → IsFaultless (with_shutdown n router item)
 
 -- In BGP the links of that network are those that do not end at the neighbour, in the same order.
 abbrev pub ShutdownLeavesLinks : Type 0
