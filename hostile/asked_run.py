@@ -26,6 +26,7 @@ from hostile.judge.problem import Network
 from hostile.judge.rests import TooLarge
 from hostile.makers import asked as maker
 from hostile.makers import disputes, networks
+from hostile.slices import in_slices
 
 CALLS = 8
 READERS = ("search", "solver")
@@ -203,18 +204,12 @@ def run(how: How, seconds: float, jobs: int, texts: int | None, commands: int | 
             left = max(0.0, seconds - (time.monotonic() - begun))
             return pool.submit(part_of_job, how, number, turn, min(SLICE, left))
 
-        waiting = {part(number, 0): number for number in range(jobs)}
-        while waiting:
-            done, _ = concurrent.futures.wait(waiting, return_when=concurrent.futures.FIRST_COMPLETED)
-            for one in done:
-                number = waiting.pop(one)
-                more, turn = one.result()
-                found.add(more)
-                is_full = (texts is not None and found.texts >= texts) or (
-                    commands is not None and found.asked >= commands
-                )
-                if time.monotonic() - begun < seconds and not is_full:
-                    waiting[part(number, turn)] = number
+        def goes_on() -> bool:
+            is_full = (texts is not None and found.texts >= texts) or (commands is not None and found.asked >= commands)
+            return time.monotonic() - begun < seconds and not is_full
+
+        for more in in_slices(part, jobs, goes_on):
+            found.add(more)
     return found
 
 

@@ -84,7 +84,7 @@ def _moved_neighbors(chance: random.Random, body: list[Line]) -> list[Line]:
 
 def rewritten(chance: random.Random, text: bytes) -> bytes:
     """Policies that do the same, written otherwise: under other names, with words in another order, lines and entries
-    that never decide, and entries parted by their lists."""
+    that never decide, and entries split by their lists."""
     routers = _read(text)
     for router in routers:
         change = _other_names(chance, router)
@@ -114,7 +114,7 @@ def _rewritten(
     chance: random.Random, router: Router, stanza: Stanza, change: dict[tuple[str, str], str]
 ) -> list[Stanza]:
     """A stanza under the new names, its words in another order where that means nothing. An entry of two community
-    lists is sometimes parted in two."""
+    lists is sometimes split in two."""
     lines = [
         line.with_text((" " if line.is_indented else "") + " ".join(_words(chance, line.words, change)))
         for line in stanza.lines

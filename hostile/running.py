@@ -22,6 +22,7 @@ from hostile.compare import Comparison, Difference, Enough
 from hostile.judge.network import Refused
 from hostile.kept_answers import KeptAsker
 from hostile.makers import makers
+from hostile.slices import in_slices
 from bonsainet.ask.program import Program
 from bonsainet.cli.workers import workers
 
@@ -169,19 +170,15 @@ def run(plan: Plan, log: TextIO | None = None) -> tuple[Found, float]:
     spent = lambda: time.monotonic() - begun  # noqa: E731
     with workers(plan.jobs) as pool:
 
-        def part(number: int, turn: int) -> concurrent.futures.Future:
+        def part(number: int, turn: int) -> concurrent.futures.Future[tuple[Found, int]]:
             return pool.submit(part_of_job, plan, number, turn, min(SLICE, max(0.0, plan.seconds - spent())))
 
-        waiting = {part(number, 0): number for number in range(plan.jobs)}
+        def goes_on() -> bool:
+            return spent() < plan.seconds and not _is_enough(plan, found)
+
         try:
-            while waiting:
-                done, _ = concurrent.futures.wait(waiting, return_when=concurrent.futures.FIRST_COMPLETED)
-                for one in done:
-                    number = waiting.pop(one)
-                    more, turn = one.result()
-                    found.add(more)
-                    if spent() < plan.seconds and not _is_enough(plan, found):
-                        waiting[part(number, turn)] = number
+            for more in in_slices(part, plan.jobs, goes_on):
+                found.add(more)
                 if log and spent() - logged >= LOG_EVERY:
                     logged = spent()
                     print(line_of_log(found, logged), file=log, flush=True)

@@ -111,7 +111,7 @@ def _is_allowed(words: tuple[str, ...], ended: End, plain: End) -> bool:
 
 
 def networks(folder: Path, each: int = 4) -> list[str]:
-    """Files of networks of either protocol: an example, and for the rest small ones by chance, which have a class that
+    """Files of networks of either protocol: an example, and for the rest small random ones, which have a class that
     `compress` takes."""
     inputs = TOP / "examples" / "inputs"
     found = [str(inputs / "fabric.cfg"), str(inputs / "campus.cfg")]

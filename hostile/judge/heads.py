@@ -81,7 +81,7 @@ def _is(part: str, word: str) -> bool:
 
 
 PARTS = {part for heads in BY_FIRST.values() for _, head in heads for part in head}
-"""The words that heads have. Other words are alike to them, but for numbers."""
+"""The words that heads have. Other words are alike to them, except for numbers."""
 LONGEST = max(len(head) for heads in BY_FIRST.values() for _, head in heads)
 
 

@@ -58,7 +58,7 @@ def community_list(router: Router, rest: list[str], line: int) -> None:
 
 
 def communities(named: list[str], line: int) -> frozenset[int]:
-    """1 to 32 communities, each named once; WellKnown where they fit but for a well-known one."""
+    """1 to 32 communities, each named once; WellKnown where they fit except for a well-known one."""
     values = words.all_given(words.community(word) for word in named)
     if (
         not 1 <= len(named) <= MOST_NAMED

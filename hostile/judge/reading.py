@@ -33,7 +33,7 @@ def line_faults(lines: list[bytes]) -> None:
 
 
 def split(line: bytes) -> list[str]:
-    """The words of a line, parted by blanks or tabs."""
+    """The words of a line, separated by blanks or tabs."""
     return [word for word in line.decode("latin-1").replace("\t", " ").split(" ") if word]
 
 

@@ -184,7 +184,7 @@ def weak_rests(whole: Problem) -> list[list[Label]]:
 
 
 def forwards_weakly(whole: Problem, given: list[Label], place: int) -> set[int]:
-    """The routers to which a router may forward: the exporters of all routes as good as its own but for ties."""
+    """The routers to which a router may forward: the exporters of all routes as good as its own except for ties."""
     if given[place] is None or whole.protocol == "bgp" and place in whole.initial:
         return set()
     mine = weak_key(whole, given[place])

@@ -1,4 +1,4 @@
-"""Labels by chance that come close to what decides: communities that lists name, ties, lone routers on paths, best
+"""Random labels that come close to what decides: communities that lists name, ties, lone routers on paths, best
 candidates and others."""
 from __future__ import annotations
 
@@ -31,7 +31,7 @@ class Maker:
         self.telling = telling_sets(net)
 
     def text(self) -> bytes:
-        """A solution: routes by chance, of which the first routers have their best candidate, or one of their
+        """A solution: random routes, of which the first routers have their best candidate, or one of their
         candidates."""
         whole = self.problem
         tied = self._route() if self.chance.random() < (0.9 if whole.lone else 0.6) else None
@@ -44,7 +44,7 @@ class Maker:
         return "".join(f"{name} {labels.text(label)}\n" for name, label in zip(whole.names, held)).encode()
 
     def _chosen(self, found: list[labels.Label]) -> labels.Label:
-        """The best of some candidates, or one that ties with it but for the last key, or any."""
+        """The best of some candidates, or one that ties with it except for the last key, or any."""
         if not found:
             return None
         best = min(found, key=lambda route: labels.key(self.problem, route))

@@ -1,11 +1,12 @@
 """Copies of the program, built without proofs, and of the second reader, each with a fault planted."""
 from __future__ import annotations
 
+import contextlib
 import importlib.machinery
 import importlib.util
 import shutil
 import tempfile
-from collections.abc import Sequence
+from collections.abc import Iterator, Mapping, Sequence
 from pathlib import Path
 from types import ModuleType
 
@@ -51,26 +52,38 @@ def program(fault: Fault | None, folder: Path, called: str = "bonsai") -> Path:
 
 def program_with(faults: Sequence[Fault], kept: Path, called: str) -> Path:
     """The program of a name with faults of its sources, built where the file is not there."""
-    if kept.is_file():
-        return kept
-    kept.parent.mkdir(parents=True, exist_ok=True)
+    if not kept.is_file():
+        with copied() as room:
+            for fault in faults:
+                planted(fault, room / "crates" / fault.file)
+            build(launcher_of(room), room, kept, called)
+    return kept
+
+
+@contextlib.contextmanager
+def copied() -> Iterator[Path]:
+    """A folder with a copy of the crates and the launcher, which is gone at the end of the context."""
     with tempfile.TemporaryDirectory(prefix="planted-") as name:
         room = Path(name).resolve()
         shutil.copytree(TOP / "crates", room / "crates", ignore=shutil.ignore_patterns("out", "target"))
         for file in ("bonsai", "crates.txt"):
             shutil.copy2(TOP / file, room / file)
-        for fault in faults:
-            planted(fault, room / "crates" / fault.file)
-        launcher = launcher_of(room)
-        if not launcher.kit():
-            raise Unfit("the command rt of the Rattle kit is not on the path")
-        try:
-            asked = launcher.Program(called)
-            kept.write_bytes(launcher.built(asked, launcher.kit(), launcher.code_of(asked), str(room / "build")))
-            kept.chmod(0o755)
-        except launcher.NoProgram as why:
-            raise Unfit(f"{kept.name}: {why}") from why
-    return kept
+        yield room
+
+
+def build(launcher: ModuleType, room: Path, kept: Path, called: str, more: Mapping[str, bytes] | None = None) -> None:
+    """Builds the program of a name from a copy of the sources, and files besides by their names. Unfit where it is not
+    built."""
+    if not launcher.kit():
+        raise Unfit("the command rt of the Rattle kit is not on the path")
+    kept.parent.mkdir(parents=True, exist_ok=True)
+    try:
+        asked = launcher.Program(called)
+        code = {**launcher.code_of(asked), **(more or {})}
+        kept.write_bytes(launcher.built(asked, launcher.kit(), code, str(room / "build")))
+        kept.chmod(0o755)
+    except launcher.NoProgram as why:
+        raise Unfit(f"{kept.name}: {why}") from why
 
 
 def reader(fault: Fault, room: Path) -> Path:

@@ -9,14 +9,12 @@ from __future__ import annotations
 import contextlib
 import os
 import resource
-import shutil
-import tempfile
 from collections.abc import Iterator, Sequence
 from pathlib import Path
 
 from bonsainet.ask.program import TOP
 from hostile.planting.ask_faults import SWITCH
-from hostile.planting.copies import Unfit, launcher_of, planted
+from hostile.planting.copies import Unfit, build, copied, launcher_of, planted
 from hostile.planting.fault import Fault
 
 LOW = "base_kit"
@@ -103,25 +101,14 @@ def program_of(faults: Sequence[Fault], kept: Path, called: str) -> Path:
     """The program of a name with all faults, built where the file is not there."""
     if kept.is_file():
         return kept
-    kept.parent.mkdir(parents=True, exist_ok=True)
-    with tempfile.TemporaryDirectory(prefix="planted-") as name:
-        room = Path(name).resolve()
-        shutil.copytree(TOP / "crates", room / "crates", ignore=shutil.ignore_patterns("out", "target"))
-        shutil.copy2(TOP / "bonsai", room / "bonsai")
+    with copied() as room:
         (room / "crates.txt").write_text(lines_of_crates((TOP / "crates.txt").read_text(), faults))
         put(faults, room / "crates")
         launcher = launcher_of(room)
-        if not launcher.kit():
-            raise Unfit("the command rt of the Rattle kit is not on the path")
         vars(launcher)["CLANG"] = CLANG
         os.environ["RT_ALLOW_C"] = LOW
         try:
-            asked = launcher.Program(called)
-            code = launcher.code_of(asked) | {f"crates/{LOW}/c/planted.c": C.encode()}
-            kept.write_bytes(launcher.built(asked, launcher.kit(), code, str(room / "build")))
-            kept.chmod(0o755)
-        except launcher.NoProgram as why:
-            raise Unfit(f"{kept.name}: {why}") from why
+            build(launcher, room, kept, called, {f"crates/{LOW}/c/planted.c": C.encode()})
         finally:
             del os.environ["RT_ALLOW_C"]
     return kept

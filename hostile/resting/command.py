@@ -1,16 +1,13 @@
-"""`hostile/events`: FRR started many times in orders and with delays by chance; what it rests in, against `bonsai-ask`."""
+"""`hostile/events`: FRR started many times in random orders and with random delays; what it rests in, against `bonsai-ask`."""
 
 from __future__ import annotations
 
 import argparse
-import concurrent.futures
 import dataclasses
 import json
 import os
 import re
 import subprocess
-import sys
-import time
 from collections import Counter
 from pathlib import Path
 
@@ -25,14 +22,10 @@ from bonsainet.lab.plan import plan_of
 from hostile.asking import Asker
 from hostile.judge import answers, labels, rests
 from hostile.judge.labels import Label, Route
-from hostile.judge.network import Refused
 from hostile.judge.problem import Problem, problem
 from hostile.resting import pictures, record
 from hostile.resting.networks import PREFIX, Made, networks
-
-
-class NotRun(Exception):
-    """The lab or the program did not do its part, with the reason."""
+from hostile.resting.trying import NotRun, each_tried, how
 
 
 @dataclasses.dataclass
@@ -189,29 +182,13 @@ def main(arguments: list[str] | None = None) -> int:
     chosen = [made for made in networks() if not given.only or made.name in given.only]
     load, failed = os.getloadavg()[0], False
     kept = json.loads(record.KEPT.read_text("utf-8")) if given.record and record.KEPT.is_file() else {}
-    with concurrent.futures.ThreadPoolExecutor(given.side) as pool:
-        for made, one in [(made, pool.submit(tried, made, given)) for made in chosen]:
-            try:
-                found = one.result()
-            except (NotRun, Refused, subprocess.SubprocessError) as why:
-                print(f"events: {made.name}: {why}", file=sys.stderr, flush=True)
-                failed = True
-                continue
-            failed |= not found.is_right
-            print(json.dumps(dataclasses.asdict(found)), flush=True)
-            kept[found.name] = dataclasses.asdict(found) | {"source": made.source} | _how(given, load)
+    for made, found in zip(chosen, each_tried("events", tried, chosen, given)):
+        failed |= found is None or not found.is_right
+        if found:
+            kept[found.name] = dataclasses.asdict(found) | {"source": made.source} | how(given, load)
     if given.record:
         order = [made.name for made in networks()]
         kept = {name: kept[name] for name in order if name in kept}
         record.KEPT.write_text(json.dumps(kept, indent=1) + "\n", "utf-8")
         record.write()
     return 1 if failed else 0
-
-
-def _how(given: argparse.Namespace, load: float) -> dict[str, object]:
-    return {
-        "date": time.strftime("%Y-%m-%d"),
-        "seed": given.seed,
-        "quiet": given.quiet,
-        "load": [round(load, 1), round(os.getloadavg()[0], 1)],
-    }

@@ -27,7 +27,7 @@ Record = dict[str, object]
 
 
 def once(plan: Plan, chance: random.Random, seconds: float, quiet: float) -> Record:
-    """Starts the daemons of all routers in an order by chance, waits for rest, and ends them."""
+    """Starts the daemons of all routers in a random order, waits for rest, and ends them."""
     order = [router for router in plan.routers if router.speaks]
     chance.shuffle(order)
     delays = [chance.uniform(0, MOST_DELAY) for _ in order]

@@ -3,21 +3,15 @@
 from __future__ import annotations
 
 import argparse
-import concurrent.futures
 import dataclasses
 import functools
-import json
 import os
 import random
 import re
-import subprocess
-import sys
-import time
 
 from bonsainet.ask.labels import BgpLabel, OspfLabel
 from bonsainet.ask.program import TOP
 from bonsainet.bench.states import kind
-from bonsainet.cli.command_line import Refused as NoLab
 from bonsainet.configs.network import Network as TextNetwork
 from bonsainet.configs.network import read_network
 from bonsainet.exporting import frr
@@ -31,8 +25,9 @@ from hostile.judge.labels import Label, Route
 from hostile.judge.problem import Network, Problem, problem
 from hostile.judge.words import dotted
 from hostile.resting import lost_record
-from hostile.resting.command import NotRun, is_weakly_stable
+from hostile.resting.command import is_weakly_stable
 from hostile.resting.lost_networks import Text, losses, texts
+from hostile.resting.trying import NotRun, each_tried, how
 
 # (how long a network without a solution is left to itself before and between losses)
 RESTLESS_SECONDS = 15.0
@@ -186,26 +181,10 @@ def main(arguments: list[str] | None = None) -> int:
         return 0
     refuse_unless_able()
     load, failed = os.getloadavg()[0], False
-    with concurrent.futures.ThreadPoolExecutor(given.side) as pool:
-        for text, one in [(text, pool.submit(tried, text, given)) for text in chosen]:
-            try:
-                found = one.result()
-            except (NotRun, NoLab, subprocess.SubprocessError) as why:
-                print(f"losses: {text.name}: {why}", file=sys.stderr, flush=True)
-                failed = True
-                continue
-            failed |= bool(found.wrong)
-            print(json.dumps(dataclasses.asdict(found)), flush=True)
-            if given.record:
-                lost_record.keep(dataclasses.asdict(found) | _how(given, load), [text.name for text in texts()])
+    for found in each_tried("losses", tried, chosen, given):
+        failed |= found is None or bool(found.wrong)
+        if found and given.record:
+            asked = {"program": kind(TOP / given.program)}
+            kept = dataclasses.asdict(found) | how(given, load) | asked
+            lost_record.keep(kept, [text.name for text in texts()])
     return 1 if failed else 0
-
-
-def _how(given: argparse.Namespace, load: float) -> dict[str, object]:
-    return {
-        "date": time.strftime("%Y-%m-%d"),
-        "seed": given.seed,
-        "quiet": given.quiet,
-        "program": kind(TOP / given.program),
-        "load": [round(load, 1), round(os.getloadavg()[0], 1)],
-    }

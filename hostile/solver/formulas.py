@@ -60,24 +60,23 @@ def negation(one: Formula) -> Formula:
 
 def conjunction(parts: Iterable[Formula]) -> Formula:
     """All are true."""
-    left = []
-    for part in parts:
-        if part is False:
-            return False
-        if part is not True:
-            left.append(str(part))
-    return True if not left else left[0] if len(left) == 1 else f"(and {' '.join(left)})"
+    return _joined("and", True, parts)
 
 
 def disjunction(parts: Iterable[Formula]) -> Formula:
     """One is true."""
+    return _joined("or", False, parts)
+
+
+def _joined(word: str, neutral: bool, parts: Iterable[Formula]) -> Formula:
+    """Parts joined by a word: a part that is `neutral` goes, and one that is its opposite decides."""
     left = []
     for part in parts:
-        if part is True:
-            return True
-        if part is not False:
+        if part is (not neutral):
+            return not neutral
+        if part is not neutral:
             left.append(str(part))
-    return False if not left else left[0] if len(left) == 1 else f"(or {' '.join(left)})"
+    return neutral if not left else left[0] if len(left) == 1 else f"({word} {' '.join(left)})"
 
 
 def same(one: Formula, other: Formula) -> Formula:

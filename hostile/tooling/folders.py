@@ -1,4 +1,4 @@
-"""Folders of configurations that were changed by chance, with decisions and words, through the import."""
+"""Folders of configurations that were changed at random, with decisions and words, through the import."""
 from __future__ import annotations
 
 import json

@@ -25,69 +25,20 @@ import importlib
 from typing import TYPE_CHECKING
 
 if TYPE_CHECKING:
-    from bonsainet.library import (
-        AllQuestions,
-        Answer,
-        Aspect,
-        BgpLabel,
-        BonsaiError,
-        Change,
-        ClassNotFound,
-        DestClass,
-        Difference,
-        Group,
-        ImportRefused,
-        Kind,
-        Loss,
-        Network,
-        OspfLabel,
-        PrefixChange,
-        ProgramFailed,
-        Questions,
-        Reply,
-        Route,
-        Size,
-        TextRefused,
-        Tie,
-        WordsRefused,
-        diff,
-    )
-
-__all__ = [
-    "AllQuestions",
-    "Answer",
-    "Aspect",
-    "BgpLabel",
-    "BonsaiError",
-    "Change",
-    "ClassNotFound",
-    "DestClass",
-    "Difference",
-    "Group",
-    "ImportRefused",
-    "Kind",
-    "Loss",
-    "Network",
-    "OspfLabel",
-    "PrefixChange",
-    "ProgramFailed",
-    "Questions",
-    "Reply",
-    "Route",
-    "Size",
-    "TextRefused",
-    "Tie",
-    "WordsRefused",
-    "diff",
-]
+    from bonsainet.library import *  # noqa: F401, F403
 
 
 def __getattr__(name: str) -> object:
-    """A name of the library, which loads when it is used, so that a tool does not wait for it."""
-    if name in __all__:
-        return getattr(importlib.import_module("bonsainet.library"), name)
+    """A name of the library, which loads when one is used, so that a tool does not wait for it."""
+    if name.startswith("_") and name != "__all__":
+        raise AttributeError(f"module 'bonsainet' has no attribute {name!r}")
+    library = importlib.import_module("bonsainet.library")
+    if name == "__all__":
+        return library.__all__
+    if name in library.__all__:
+        return getattr(library, name)
     raise AttributeError(f"module 'bonsainet' has no attribute {name!r}")
 
 
 def __dir__() -> list[str]:
-    return sorted({*globals(), *__all__})
+    return sorted({*globals(), *importlib.import_module("bonsainet.library").__all__})

@@ -40,7 +40,7 @@ def words() -> argparse.ArgumentParser:
     made = parser("diagrams", "Counts the diagrams of matched community lists, in a model or by a program.")
     made.add_argument("--texts", default=TEXTS, help="texts, as LISTSxLINESxCOMMUNITIES (default: %(default)s)")
     made.add_argument("--named", type=int, default=1, help="communities on each line (default: %(default)s)")
-    made.add_argument("--order", action="append", choices=ORDERS, help="only this order (may stand several times)")
+    made.add_argument("--order", action="append", choices=ORDERS, help="only this order (may be repeated)")
     made.add_argument(
         "--remembered",
         type=int,

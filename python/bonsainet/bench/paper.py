@@ -1,7 +1,7 @@
 """bench/paper: fat trees, rings and full meshes, their sizes before and after, and the time for each class.
 
 These are the synthetic networks of the evaluation in Beckett, Gupta, Mahajan and Walker, Control Plane Compression,
-SIGCOMM 2018, from memory: the paper was not at hand, so none of its figures stands here. The groups that a shape must
+SIGCOMM 2018, from memory: the paper was not at hand, so none of its figures is here. The groups that a shape must
 have are counted by hand.
 """
 from __future__ import annotations

@@ -37,7 +37,7 @@ def star(size: int) -> Graph:
 
 
 def shuffled_line(size: int) -> Graph:
-    """A line whose routers stand in the text in a random order, the same one each time."""
+    """A line whose routers are in the text in a random order, the same one each time."""
     names = _names(size)
     random.Random(1).shuffle(names)
     along = sorted(names, key=lambda name: int(name[1:]))

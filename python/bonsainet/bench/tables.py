@@ -99,7 +99,7 @@ Some = TypeVar("Some", bound=Linked)
 
 
 def growth(last: Some, before: Some, figure: Callable[[Some], float]) -> float:
-    """By which factor a figure grows while the links of the network double, as two sizes tell it."""
+    """By which factor a figure grows while the links of the network double, as two sizes show it."""
     return (figure(last) / figure(before)) ** (1 / math.log2(last.links / before.links))
 
 

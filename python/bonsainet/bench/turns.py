@@ -61,12 +61,8 @@ def words() -> argparse.ArgumentParser:
     made.add_argument(
         "programs", nargs="+", type=Path, metavar="PROGRAM", help="a program, as crates/bonsai/out/bonsai"
     )
-    made.add_argument(
-        "--command", action="append", choices=COMMANDS, help="only this command (may stand several times)"
-    )
-    made.add_argument(
-        "--shape", action="append", choices=[*SHAPES, FAT_TREE], help="only this shape (may stand several times)"
-    )
+    made.add_argument("--command", action="append", choices=COMMANDS, help="only this command (may be repeated)")
+    made.add_argument("--shape", action="append", choices=[*SHAPES, FAT_TREE], help="only this shape (may be repeated)")
     usual = f"default: {SIZES}; of `summary` in OSPF {SUMMARY_SIZES}, with loopbacks {LOOPBACKS_SIZES}"
     made.add_argument(
         "--sizes", metavar="N,N..", help=f"numbers of routers, ascending ({usual}); `trial` takes its own"
@@ -119,7 +115,7 @@ def work(arguments: argparse.Namespace) -> None:
     if arguments.memory and not os.access(TIME, os.X_OK):
         raise Refused("the program time is not there: install the package time")
     if arguments.instructions and (arguments.memory or arguments.keep or not shutil.which("valgrind")):
-        raise Refused("--instructions stands without --memory and --keep, and needs the package valgrind")
+        raise Refused("--instructions goes without --memory and --keep, and needs the package valgrind")
     measure = MEMORY if arguments.memory else INSTRUCTIONS if arguments.instructions else SECONDS
     commands = tuple(arguments.command or (MEMORY_COMMANDS if arguments.memory and arguments.keep else COMMANDS))
     shapes = arguments.shape or [*SHAPES, FAT_TREE]
@@ -155,7 +151,7 @@ def measure_questions(arguments: argparse.Namespace) -> None:
         arguments.anew,
     )
     if any(others) or len(arguments.programs) != 1:
-        raise Refused("--questions stands with one program, --runs, --keep and --named alone")
+        raise Refused("--questions takes one program, --runs, --keep and --named alone")
     questions.work(program_at(arguments.programs[0]), arguments.runs, arguments.keep, arguments.named)
 
 

@@ -12,9 +12,9 @@ from ipaddress import IPv4Address, IPv4Interface
 from pathlib import Path
 
 from bonsainet.importing.folder import Source, address_of, first, kind_of, name_of
-from bonsainet.importing.rules.costs import PROFILE_COSTS
 from bonsainet.importing.rules.ospf import in_area, is_passive
 from bonsainet.ask.program import Class, Program
+from bonsainet.configs.profile import DEFAULT_COSTS
 from bonsainet.configs.text import text_of
 
 ROUTE_FILES = ("show_ip_route.ref", "show_ipv4_route.ref")
@@ -143,6 +143,6 @@ def _ends(routers: list[Source]) -> list[End]:
             if address and in_area(router, stanza) and not is_passive(router, name_of(stanza)):
                 line = first(stanza, "ip", "ospf", "cost")
                 found.append(
-                    End(router.name, address, int(line.words[3]) if line else PROFILE_COSTS[kind_of(name_of(stanza))])
+                    End(router.name, address, int(line.words[3]) if line else DEFAULT_COSTS[kind_of(name_of(stanza))])
                 )
     return found

@@ -195,8 +195,8 @@ def _run(folder: Path, program: Program, seconds: int) -> str:
         report, _ = _of_one_area(folder, program, report)
     if report.folder.log.refusals:
         raise Refused(f"{folder.name}: it is not accepted")
-    parted = {found.text.split()[2] for found in report.folder.log.assumptions if "--own-as" in found.reason}
-    found = run_on_frr(folder, report.folder, program, seconds, parted.pop() if len(parted) == 1 else "")
+    numbered = {found.text.split()[2] for found in report.folder.log.assumptions if "--own-as" in found.reason}
+    found = run_on_frr(folder, report.folder, program, seconds, numbered.pop() if len(numbered) == 1 else "")
     lines = [
         f"{folder.name}: {found.labels} labels, {len(found.differing)} differ, {len(found.tied)} have the same key over another path"
     ]

@@ -49,7 +49,7 @@ def commit_of(revision: str) -> str:
 
 
 def merge_base(one: str, other: str) -> str:
-    """The commit at which two revisions parted. Refused where they have none in common."""
+    """The last commit that two revisions have in common. Refused where they have none in common."""
     words = ("merge-base", commit_of(one), commit_of(other))
     return _said(*words, refused=f"{printable(one)} and {printable(other)} have no commit in common")
 

@@ -4,7 +4,7 @@ OSPF neighbours must agree on the hello and the dead interval (RFC 2328, section
 and its keys (appendix D) and on the MTU (section 10.6). A BGP session with a password on one end alone, or with two
 passwords, does not come up (RFC 2385), nor one that both ends wait for. Frames need one tag (IEEE 802.1Q) and one
 encapsulation, and an access list may drop what the other end sends. Keys are compared where they can be read, and
-never told.
+never written.
 """
 from __future__ import annotations
 
@@ -39,7 +39,7 @@ NO_LINK = "real routers form no link"
 
 
 def doubts_of_agreement(network: Network) -> Iterator[Doubt]:
-    """All of them, link by link. Each stands at the end whose line comes last, else at the one that has a line. Of a
+    """All of them, link by link. Each is at the end whose line comes last, else at the one that has a line. Of a
     stub's own settings nothing is known."""
     settings: tuple[Setting, ...] = (
         (_password,) if network.protocol == "bgp" else (_hello, _dead, _authentication, _mtu)

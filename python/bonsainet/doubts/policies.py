@@ -1,6 +1,6 @@
 """Doubts about lists and maps: those that nothing uses, and entries behind one that takes everything they could take.
 
-What is told holds for every route; an entry that is not told may still be reached by none.
+What is reported holds for every route; an entry that is not reported may still be reached by none.
 """
 from __future__ import annotations
 

@@ -132,7 +132,7 @@ class TiesAsked:
 
 
 def doubts_of_ties(program: Program, asked: Asked, numbers: Sequence[int]) -> Iterator[Doubt]:
-    """The ties of some classes; of classes whose compressed networks are alike but for their prefixes the first is
+    """The ties of some classes; of classes whose compressed networks are alike except for their prefixes the first is
     asked."""
     if asked.network.protocol != "bgp":
         return
@@ -248,7 +248,7 @@ def _brought(program: Program, small: Compressed, labels: dict[str, Label], name
 
 
 def _with_one_session(text: str, name: str, address: str) -> str:
-    """The text in which a router's neighbours but for one are shut."""
+    """The text in which all neighbours of a router except one are shut."""
     routers = read_text(text, "F")
     for router in routers:
         for stanza in router.with_head("router", "bgp") if router.name == name else ():
@@ -262,7 +262,7 @@ def _with_one_session(text: str, name: str, address: str) -> str:
 
 
 def _is_beaten(program: Program, text: str, labels: dict[str, Label], name: str) -> bool:
-    """Whether `check` says of a router's route that another beats it. The router stands first in the text, so that it
+    """Whether `check` says of a router's route that another beats it. The router comes first in the text, so that it
     is judged first."""
     routers = sorted(read_text(text, "F"), key=lambda router: router.name != name)
     answer = program.ask("check", "F", "1", "S", texts={"F": text_of(routers), "S": solution_text(labels)})

@@ -14,7 +14,7 @@ from bonsainet.cli.words import counted
 
 @dataclasses.dataclass(frozen=True)
 class Node:
-    """A router, or a group of routers that is drawn as one node. `members` are the routers that it stands for."""
+    """A router, or a group of routers that is drawn as one node. `members` are the routers of the group."""
 
     name: str
     group: Group

@@ -125,7 +125,7 @@ def key(graphs: list[Graph]) -> list[str]:
         (any(node.group.is_lone for node in nodes), "Dashed border: lone router."),
         (
             any(edge.at_low is not None for edge in edges),
-            "Number on a link: its OSPF cost. Of two, each is that of the router on its side, or by whose name it stands.",
+            "Number on a link: its OSPF cost. Of two, each is that of the router on its side, or beside whose name it is.",
         ),
         (
             any(edge.policies for edge in edges),
@@ -139,7 +139,7 @@ def key(graphs: list[Graph]) -> list[str]:
 
 
 def _places(graph: Graph, colors: dict[int, str], shows_labels: bool) -> dict[str, float]:
-    """How far to the right each router stands where a graph is laid out alone. Empty where it cannot be."""
+    """How far to the right each router is where a graph is laid out alone. Empty where it cannot be."""
     made = graphviz.Graph(engine="dot")
     _put(made, graph, "0:", colors, shows_labels, False, {})
     try:
@@ -161,7 +161,7 @@ def _put(
     places: dict[str, float],
 ) -> None:
     """Puts a graph into a picture; spread, with as much height between layers as costs take. Where `places` has routers,
-    nodes of one layer stand as their members do there."""
+    nodes of one layer are in the order of their members there."""
     layers = graph.layers()
     rank = {node.name: sum(places.get(name, 0) for name in node.members) / len(node.members) for node in graph.nodes}
     beside: dict[int, list[str]] = {}
@@ -194,7 +194,7 @@ def _put(
 
 def _cost(edge: Edge, is_upright: bool, is_flat: bool) -> str:
     """The costs of a link as a table on white ground: one where both ends have it, else that of each end on its side,
-    or with its name where both stand at one height."""
+    or with its name where both are at one height."""
     if edge.at_low is None:
         return ""
     ends = [(edge.low, edge.at_low), (edge.high, edge.at_high)]
@@ -223,7 +223,7 @@ def _id(prefix: str, name: str) -> str:
 
 
 def _keep_layers(part: graphviz.Graph, beside: dict[int, list[str]]) -> None:
-    """What stands in one layer at one height."""
+    """What is in one layer at one height."""
     for _, names in sorted(beside.items()):
         with part.subgraph() as row:
             row.attr(rank="same")
@@ -245,7 +245,7 @@ def _node(node: Node, colors: dict[int, str]) -> dict[str, str]:
 
 
 def label_of(node: Node) -> str:
-    """What stands in a node, lines with Graphviz's mark between them."""
+    """The text of a node, lines with Graphviz's mark between them."""
     return node.name if len(node.members) == 1 else _names(node.members)
 
 

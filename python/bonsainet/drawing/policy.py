@@ -18,7 +18,7 @@ class Direction:
 
 
 def direction(importer: End, exporter: End) -> Direction:
-    """What stands in the way of routes from the exporter to the importer."""
+    """What is done to routes from the exporter to the importer."""
     near, far = importer.own_neighbor, exporter.own_neighbor
     told, passes = [], True
     for end, name in ((exporter, far.map_out), (importer, near.map_in)):
@@ -31,7 +31,7 @@ def direction(importer: End, exporter: End) -> Direction:
 
 
 def _map_in_words(name: str, entries: list[MapEntry]) -> str:
-    """A map of one entry that holds for all is told by what it does, any other by its name."""
+    """A map of one entry that holds for all is named by what it does, any other by its name."""
     if len(entries) != 1 or entries[0].prefix_list_names or entries[0].community_list_names:
         return name
     return _acts_in_words(entries[0]) or name

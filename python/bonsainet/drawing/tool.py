@@ -89,19 +89,19 @@ def title(text: Asked, found: Compressed) -> str:
 
 
 def format_of(output: str) -> str:
-    """The format that the end of a name tells; svg where it has none. Another end is a wrong word."""
+    """The format by the end of a name; svg where it has none. Another end is a wrong word."""
     end = os.path.splitext(output)[1][1:].lower()
     if end and end != "gv" and end not in FORMATS:
         words().error(
             one_line(
-                f"{output}: no format has the end .{end}: .dot, .gv, .svg and .png have one, and --format tells it for any name"
+                f"{output}: no format has the end .{end}: .dot, .gv, .svg and .png have one, and --format gives it for any name"
             )
         )
     return "dot" if end == "gv" else end or "svg"
 
 
 def write(drawn: graphviz.Graph, form: str, output: str, source: str = "-", told: str = "") -> None:
-    """Writes a picture, with a comment that tells where it comes from."""
+    """Writes a picture, with a comment that says where it comes from."""
     made = drawn.source.encode() if form == "dot" else laid_out(drawn, form)
     write_output(output, with_comment(made, form, told), source)
 

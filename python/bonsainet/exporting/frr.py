@@ -41,7 +41,7 @@ FRR = "8.4.4"
 RULES = {
     "frr-header": "A file for all daemons of one router starts with the version and the defaults that it is written for.",
     "no-bearing": "The line has no bearing on routes, and FRR has no such line, or another one.",
-    "members": "A comment is lost when a configuration is loaded, so the members of a group stand in a description too.",
+    "members": "A comment is lost when a configuration is loaded, so the members of a group are in a description too.",
     "interface-name": "Linux takes names of at most 15 characters, without `/` and `:`.",
     "vlan-without-port": "A VLAN interface over which no link runs has no port here that could bring it up; a loopback is up by itself.",
     "address-length": "FRR takes `ip address A/LENGTH`.",
@@ -54,7 +54,7 @@ RULES = {
     "one-path": "IOS installs one path of several that tie, FRR up to 256.",
     "address-family": "FRR keeps what a neighbour sends and takes under the family of addresses.",
     "network-length": "FRR prints a BGP network with its length.",
-    "sends-by-default": "FRR sends communities to each neighbour, and IOS only where `send-community` stands.",
+    "sends-by-default": "FRR sends communities to each neighbour, and IOS only where `send-community` is set.",
     "next-hop-self": "On a wire that several routers share, FRR passes on the next hop of a third router.",
     "area-prefix": "FRR takes prefixes in OSPF `network` lines, and no wildcards; of a wildcard with holes the addresses are named that it covers.",
     "repeated": "FRR takes such a line once.",

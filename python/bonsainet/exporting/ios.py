@@ -22,7 +22,7 @@ from bonsainet.configs.text import Line
 
 RULES = {
     "no-bearing": "The line has no bearing on routes, and may name what this device does not have.",
-    "members": "IOS drops comments when it loads a file, so the members of a group stand in a description too.",
+    "members": "IOS drops comments when it loads a file, so the members of a group are in a description too.",
     "vlan-without-port": "IOS keeps a VLAN interface down that has no switch port in its VLAN, and refuses a mask of /32 on it; a loopback is up by itself.",
     "port-name": "A link needs a port, and the interface that it runs over is a VLAN interface or a loopback.",
     "no-shutdown": "The ports of an IOS router start shut.",
@@ -33,7 +33,7 @@ RULES = {
     "new-format": "Communities are shown as A:B only after `ip bgp-community new-format`.",
     "range": "IOS refuses a range whose `ge` is the length of the prefix.",
     "entry-number": "IOS numbers the entries of a prefix list up to 4294967294.",
-    "deletions-first": "The deletions of an entry stand before its additions, which is the order in which they run.",
+    "deletions-first": "The deletions of an entry come before its additions, which is the order in which they run.",
     "passive-nowhere": "The router has no interface of this name.",
     "passive-order": "The line has no effect here, and a device would take the last one of its interface.",
     "repeated": "The line says again what an earlier one says.",

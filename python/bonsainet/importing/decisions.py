@@ -9,7 +9,7 @@ A line of the file is one of
     undefined [at FILE] "NAME" permit|deny because REASON
     own-as ROUTER.. because REASON
 
-PATTERN is a line as it stands, its words parted by one blank, where `*` stands for anything. A pattern that is a top
+PATTERN is a line of the folder, its words separated by one blank, where `*` stands for anything. A pattern that is a top
 line takes its whole stanza, and one that opens a family or a template takes all lines of it. Lines that begin with `#`
 are comments. A line that the import can write, or that Bonsai reads, is dropped by `drop!` alone (guard.py).
 """
@@ -27,7 +27,7 @@ from bonsainet.importing.folder import Dialect, Folder, Source
 from bonsainet.importing.rule import rule
 from bonsainet.configs.text import Line, Place, Stanza
 
-DECIDED = rule("decision", "a person decided so, for the reason that is told", "the decisions file")
+DECIDED = rule("decision", "a person decided so, for the reason that the report gives", "the decisions file")
 PROTECTED = "protected"
 GUARDED = "guarded"
 DROPS = ("drop", "drop!")
@@ -54,7 +54,7 @@ class Decision:
     is_used: bool = False
 
     def covers(self, line: Line, text: str) -> bool:
-        """Whether the decision is about a text that stands at a line."""
+        """Whether the decision is about a text at a line."""
         if not _fits(line.place.file, self.file) or not _fits(" ".join(text.split()), self.pattern):
             return False
         self.is_used = True
@@ -203,7 +203,7 @@ def apply_drops(folder: Folder, guarded: dict[Place, str]) -> None:
 
 
 def _may_drop(folder: Folder, line: Line, found: Decision, guarded: dict[Place, str]) -> bool:
-    """Whether a line may be dropped: one that has a bearing by `drop!` alone, which is told at the end."""
+    """Whether a line may be dropped: one that has a bearing by `drop!` alone, which the report says at its end."""
     why = guarded.get(line.place)
     if why is None:
         return True
@@ -237,7 +237,7 @@ def _pieces(decisions: Decisions, router: Source, stanza: Stanza) -> Iterator[tu
 
 
 def _is_behind(router: Source, line: Line, opening: Line) -> bool:
-    """Whether a line stands behind a family or template that another line opened."""
+    """Whether a line is behind a family or template that another line opened."""
     return (
         router.dialect is Dialect.IOS
         and not line.is_blank
@@ -280,6 +280,6 @@ def _is_protected(folder: Folder, stanza: Stanza, line: Line) -> bool:
 
 
 def note(line: Line, reason: str, indent: str) -> Line:
-    """The comment that tells of an assumption in the text."""
+    """The comment that names an assumption in the text."""
     text = f"{indent}! assumed: {' '.join(line.words)} ({line.place}): {reason}"
     return line.with_text("".join(letter if 0x20 <= ord(letter) < 0x7F else "?" for letter in text)[:1000])

@@ -1,4 +1,4 @@
-"""Decisions that drop what has a bearing: a line that a rule writes in another way, or that Bonsai reads as it stands.
+"""Decisions that drop what has a bearing: a line that a rule writes in another way, or that Bonsai reads unchanged.
 
 Without such a line the text is accepted and is another network, so a plain `drop` of it is refused, and `drop!` is
 told at the end of the report. What the import would refuse, or pass over, is a person's to drop. To tell them apart the

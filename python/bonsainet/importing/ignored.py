@@ -1,6 +1,6 @@
 """The heads that the program ignores, as docs/use/LINES.md lists them: a rule cuts no line that the program passes over.
 
-Nothing hangs on this table but how short a report is: what stands in the text is judged by the program.
+This table decides only how short a report is: the program judges what is in the text.
 """
 from __future__ import annotations
 

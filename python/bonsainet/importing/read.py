@@ -70,7 +70,7 @@ EXIT = rule(
 )
 MERGED = rule(
     "stanza-parts",
-    "lines of one stanza that stand in several places count as if they stood in one",
+    "lines of one stanza in several places count as if they were in one",
     "FRR user guide; Cisco IOS Configuration Fundamentals",
 )
 
@@ -108,7 +108,7 @@ class _Reading:
         self.skip = dict.fromkeys(skip, False)
 
     def leaves_out(self, path: Path, name: str) -> bool:
-        """Whether a pattern leaves a file or a folder out, which is told."""
+        """Whether a pattern leaves a file or a folder out, which is reported."""
         pattern = next(
             (it for it in self.skip if fnmatch.fnmatchcase(path.name, it) or fnmatch.fnmatchcase(name, it)), None
         )
@@ -146,7 +146,7 @@ class _Reading:
 
 def add_skip(made: argparse.ArgumentParser) -> None:
     """Gives a tool that reads a folder the option that leaves files out."""
-    told = "leave out files and folders of this name, in which * stands for anything (may stand several times)"
+    told = "leave out files and folders of this name, in which * stands for anything (may be repeated)"
     made.add_argument("--skip", metavar="PATTERN", action="append", default=[], help=told)
 
 

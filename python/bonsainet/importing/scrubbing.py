@@ -12,7 +12,7 @@ from bonsainet.importing.rules.idle import scope_of
 
 SCRUBBED = rule(
     "scrubbed",
-    "what stands behind a word that announces a secret is left out, as --scrub asks",
+    "what is behind a word that announces a secret is left out, as --scrub asks",
     "a choice of whoever runs the tool",
 )
 # Words behind `authentication` that are no secret, and what begins lines whose communities have a bearing on routes.

@@ -93,7 +93,7 @@ def _members(router: Source, name: str) -> list[int]:
 
 
 def _around(folder: Folder, found: Refusal) -> tuple[Source | None, Stanza | None]:
-    """The router and the stanza in which a refused line stands, where it does."""
+    """The router and the stanza that have a refused line, where one does."""
     for router in folder.routers:
         for stanza in router.stanzas:
             if any(line.place == found.place for line in stanza.lines):

@@ -47,7 +47,7 @@ def import_folder(
 def imported(
     folder: Folder, program: Program, decisions: Decisions | None = None, options: Options | None = None
 ) -> Report:
-    """Works through all rules on a folder that was read, asks the program, and tells what changed."""
+    """Works through all rules on a folder that was read, asks the program, and reports what changed."""
     work(folder, program, decisions, options)
     report = report_of(folder)
     report.is_scrubbed = bool(options and options.scrub)
@@ -101,7 +101,7 @@ def command_line() -> argparse.ArgumentParser:
     made.add_argument(
         "--area",
         metavar="N",
-        help="keep one area of OSPF of several: its routers, links and prefixes; what is lost is told at the end",
+        help="keep one area of OSPF of several: its routers, links and prefixes; the report says at its end what is lost",
     )
     made.add_argument(
         "--scrub",
@@ -187,7 +187,7 @@ def main(argv: list[str] | None = None) -> int:
     if refusals:
         lines = counted(len(refusals), "line is", "lines are")
         raise Refused(
-            f"{lines} refused, the first at {refusals[0].place}; what is left to you can be told by --decisions{'' if words.suggest else ', of which --suggest FILE writes a skeleton'}"
+            f"{lines} refused, the first at {refusals[0].place}; decide them by --decisions{'' if words.suggest else ', of which --suggest FILE writes a skeleton'}"
         )
     if words.report:
         sys.stderr.writelines(f"bonsai-import: {printable(warning)}\n" for warning in report.folder.log.warnings)

@@ -66,7 +66,7 @@ KINDS = (
         "Repeated",
         "the second line that gives one value",
         " ip address 10.0.1.1 255.255.255.0",
-        "if it is a `hostname` line, or such a line above it is `Repeated` too, look first whether `end` stands before that `hostname`: without it two routers are read as one. Put `end` there, and delete nothing. Elsewhere keep the line that the device keeps: mostly the last. Two files of one router are one router",
+        "if it is a `hostname` line, or such a line above it is `Repeated` too, look first whether `end` is before that `hostname`: without it two routers are read as one. Put `end` there, and delete nothing. Elsewhere keep the line that the device keeps: mostly the last. Two files of one router are one router",
     ),
     Kind("NoHostname", "the `end` of a router without a `hostname` line", "end", "name the router"),
     Kind(

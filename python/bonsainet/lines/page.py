@@ -7,17 +7,18 @@ from collections.abc import Callable, Iterable
 
 from bonsainet.cli.command_line import parser
 from bonsainet.lines.kinds import KINDS
-from bonsainet.lines.remedies import OTHER, REFUSED, UNKNOWN, Remedy
+from bonsainet.lines.remedies import ELSE, OTHER, OTHERWISE, REFUSED, UNKNOWN, Remedy
 from bonsainet.configs.profile import DEFAULT_COSTS
 from bonsainet.ask.program import TOP
 
 PAGE = TOP / "docs" / "use" / "LINES.md"
+MARK = "†"
 
 
 def kinds_table() -> str:
     """A row for each kind."""
     rows = [f"| {kind.name} | {kind.stands} | `{_cell(kind.example)}` | {kind.remedy} |" for kind in KINDS]
-    return _table("| kind | stands at | such a line | what to do |", rows)
+    return _table("| kind | is at | such a line | what to do |", rows)
 
 
 def costs_table() -> str:
@@ -39,7 +40,7 @@ def refused_table() -> str:
 
 def unknown_table() -> str:
     """A row for the unknown heads that are met most, and for all others."""
-    return _table("| where | head | what to do |", [*map(_row, UNKNOWN), f"| | any other | {OTHER} |"])
+    return _table("| where | head | what to do |", [*map(_row, UNKNOWN), f"| | any other | {_marked(OTHER)} |"])
 
 
 TABLES: dict[str, Callable[[], str]] = {
@@ -73,7 +74,12 @@ def main(words: list[str] | None = None) -> None:
 
 
 def _row(remedy: Remedy) -> str:
-    return f"| {remedy.scope} | {' '.join(f'`{head}`' for head in remedy.heads)} | {remedy.told} |"
+    return f"| {remedy.scope} | {' '.join(f'`{head}`' for head in remedy.heads)} | {_marked(remedy.told)} |"
+
+
+def _marked(told: str) -> str:
+    """A remedy with a mark in the place of the words that end many of them."""
+    return told.replace(OTHERWISE, MARK).replace(ELSE, MARK)
 
 
 def _table(head: str, rows: Iterable[str]) -> str:

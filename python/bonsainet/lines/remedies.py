@@ -192,7 +192,7 @@ UNKNOWN = (
     _of(
         "top",
         "track | ip sla | udld | bfd-template",
-        "it says when a route is lost, and not which stand at rest: it may go where no static route or map hangs on it",
+        "it says when a route is lost, and not which routes are held at rest: it may go where no static route or map depends on it",
     ),
     _of("top", "ip multicast-routing | ip pim | ip msdp", "multicast trees follow the routes and make none: it may go"),
     _of("top", "ip default-gateway", "it is for the device's own packets: it may go"),

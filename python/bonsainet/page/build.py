@@ -22,7 +22,7 @@ SaidOf = Callable[[list[Compressed]], dict[int, Said]]
 
 @dataclasses.dataclass(frozen=True)
 class Row:
-    """Classes that are alike but for their prefixes, as one row of the table, with the picture of the compressed
+    """Classes that are alike except for their prefixes, as one row of the table, with the picture of the compressed
     network or why there is none, with the groups that hold a tied route, or why these were not asked, and with what
     bonsai-ask says of the first class, where it was asked."""
 

@@ -27,7 +27,7 @@ class Refused(Protocol):
 
 
 def cause_of(kind: str, texts: list[str], place: int, refused: Sequence[Refused]) -> int | None:
-    """The place of the first refused line but for which this refusal would not stand, or none."""
+    """The place of the first refused line without which there would be no such refusal, or none."""
     return next(
         (other.place for other in refused if other.place != place and _is_cause(kind, texts, place, other.place)), None
     )
@@ -58,7 +58,7 @@ def _is_cause(kind: str, texts: list[str], place: int, other: int) -> bool:
 def _encloses(kind: str, texts: list[str], place: int, other: int) -> bool:
     """Whether the other line opens the block of a process in which the refused one stands, or which it closes.
 
-    The lines of an IPv4 unicast family are judged as those of the process; but for a second value they are refused for
+    The lines of an IPv4 unicast family are judged as those of the process; except for a second value they are refused for
     themselves.
     """
     given = texts[other].split()

@@ -31,11 +31,17 @@ def test_little_is_made_ahead() -> None:
     assert len(begun) <= 6
 
 
-def test_a_fault_ends_the_programs_that_are_asked(tmp_path: Path) -> None:
+@pytest.fixture
+def slow(tmp_path: Path) -> Path:
+    """A program that runs for a minute."""
+    made = tmp_path / "slow"
+    made.write_text("#!/bin/sh\nexec sleep 60\n")
+    made.chmod(0o755)
+    return made
+
+
+def test_a_fault_ends_the_programs_that_are_asked(slow: Path) -> None:
     """A program would run for a minute when another work fails."""
-    slow = tmp_path / "slow"
-    slow.write_text("#!/bin/sh\nexec sleep 60\n")
-    slow.chmod(0o755)
     is_asked = threading.Event()
 
     def work(item: str) -> int:
@@ -51,11 +57,8 @@ def test_a_fault_ends_the_programs_that_are_asked(tmp_path: Path) -> None:
     assert time.monotonic() - begun < 50
 
 
-def test_works_within_a_work_end_with_it(tmp_path: Path) -> None:
+def test_works_within_a_work_end_with_it(slow: Path) -> None:
     """The inner works ask programs that would run for a minute when the outer one fails."""
-    slow = tmp_path / "slow"
-    slow.write_text("#!/bin/sh\nexec sleep 60\n")
-    slow.chmod(0o755)
     is_asked = threading.Event()
 
     def inner(_item: int) -> int:

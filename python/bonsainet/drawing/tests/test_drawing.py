@@ -207,7 +207,7 @@ def test_an_end_that_tells_no_format(tmp_path) -> None:
     ran = tool("bonsai-draw", place_of("campus.cfg"), 1, "-o", tmp_path / "a.foo")
     assert (ran.returncode, ran.stdout) == (2, b"") and ran.stderr.startswith(b"usage: bonsai-draw ")
     assert ran.stderr.endswith(
-        b"a.foo: no format has the end .foo: .dot, .gv, .svg and .png have one, and --format tells it for any name\n"
+        b"a.foo: no format has the end .foo: .dot, .gv, .svg and .png have one, and --format gives it for any name\n"
     )
     assert tool("bonsai-draw", place_of("campus.cfg"), 1, "-o", tmp_path / "a.foo", "--format", "dot").returncode == 0
 

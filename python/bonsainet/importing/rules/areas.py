@@ -82,7 +82,7 @@ def _refuse_overlaps(folder: Folder) -> None:
                 folder.log.refuse(
                     stanza.head,
                     REFUSED,
-                    "lines of several areas cover its address, and which one counts cannot be told here",
+                    "lines of several areas cover its address, and the folder does not say which one counts",
                 )
 
 

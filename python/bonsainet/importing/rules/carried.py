@@ -60,7 +60,7 @@ def _carry(folder: Folder, router: Source, process: Stanza) -> None:
         refused += [(line, "of a neighbour, whose numbers leave no room,") for _, line in router.carried.values()]
     for line, name in refused:
         folder.log.refuse(
-            line, REFUSED, f"what the out map {name} makes of this route with its communities cannot be told here"
+            line, REFUSED, f"what the out map {name} makes of this route with its communities is not known here"
         )
 
 

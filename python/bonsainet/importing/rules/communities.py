@@ -54,7 +54,7 @@ def list_name(words: list[str]) -> str:
 
 
 def list_permits(router: Source, name: str, held: Communities, exact: bool = False) -> bool | None:
-    """The answer of a standard community list by the lines as they stand; none where it has another line, or is not
+    """The answer of a standard community list by its lines; none where it has another line, or is not
     defined."""
     is_defined = False
     for stanza in router.with_head("ip", "community-list"):

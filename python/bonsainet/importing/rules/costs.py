@@ -8,6 +8,7 @@ from bonsainet.importing.rewriting import cut_lines
 from bonsainet.importing.rule import rule
 from bonsainet.importing.rules.options import Options
 from bonsainet.importing.rules.ospf import Active, active_wires, in_area
+from bonsainet.configs.profile import DEFAULT_COSTS
 from bonsainet.configs.text import Line, Stanza
 
 COST = rule(
@@ -43,15 +44,6 @@ KBITS = {
     "FourHundredGigE": 400_000_000,
     "Serial": 1_544,
     "Vlan": 1_000_000,
-}
-PROFILE_COSTS = {
-    "Loopback": 1,
-    "FastEthernet": 1,
-    "GigabitEthernet": 1,
-    "TenGigabitEthernet": 1,
-    "Vlan": 1,
-    "Ethernet": 10,
-    "Serial": 64,
 }
 WIRED = tuple(kind for kind in KBITS if kind.endswith(("Ethernet", "GigE")))
 DIRECT = 30
@@ -93,7 +85,7 @@ def compare_speeds(folder: Folder, _options: Options) -> None:
 
 
 def _fastest(end: Active) -> int | None:
-    """The speed in kbit/s that a port of a device takes at most, or none where its type does not tell."""
+    """The speed in kbit/s that a port of a device takes at most, or none where its type does not say."""
     kind = kind_of(name_of(end.stanza))
     if end.router.dialect is not Dialect.IOS or kind not in WIRED:
         return None
@@ -146,7 +138,7 @@ def _write_cost(folder: Folder, router: Source, stanza: Stanza) -> None:
             f"with this reference bandwidth the cost of a loopback is {cost} or 1, by its network type and the version: decide `cost`",
         )
         return
-    if cost != PROFILE_COSTS.get(kind_of(name)):
+    if cost != DEFAULT_COSTS.get(kind_of(name)):
         folder.log.by(line, COST)
         stanza.body.insert(at, indented(line, f"ip ospf cost {cost}"))
 
@@ -160,7 +152,7 @@ def _cost(router: Source, kbits: int) -> int:
 
 
 def _kbits(folder: Folder, router: Source, stanza: Stanza, line: Line) -> int | None:
-    """The bandwidth of an interface in kbit/s, or none with a refusal where the folder does not tell it."""
+    """The bandwidth of an interface in kbit/s, or none with a refusal where the folder does not say it."""
     name = name_of(stanza)
     given = next(
         (
@@ -178,7 +170,7 @@ def _kbits(folder: Folder, router: Source, stanza: Stanza, line: Line) -> int | 
             folder.log.refuse(
                 line,
                 NO_COST,
-                "FRR takes the bandwidth from the kernel, and the folder does not tell it: decide `bandwidth` or `cost`",
+                "FRR takes the bandwidth from the kernel, and the folder does not say it: decide `bandwidth` or `cost`",
             )
             return None
         return int(given.words[1]) * 1000

@@ -24,7 +24,7 @@ ACCESS = rule(
 )
 NUMBERED = rule(
     "prefix-list-number",
-    "an entry without a number stands 5 behind the last one, on FRR at the next multiple of 5",
+    "an entry without a number comes 5 after the last one, on FRR at the next multiple of 5",
     "Cisco IOS BGP, `ip prefix-list`; FRR user guide, filtering",
 )
 COUNTED = rule(
@@ -53,7 +53,7 @@ SPENT = rule(
 )
 NameFor = Callable[[str, Line], str | None]
 WHOLE = re.compile(r"_(\d+:\d+)_")
-# An expression without what can take in a blank, but for `_` at its ends: so it is found inside of one community.
+# An expression in which only `_` at its ends can match a blank, so that it is found inside of one community.
 ALONE = re.compile(r"_?(?:[0-9:|()*+?a-zA-Z-]|\[[0-9-]+\])+_?")
 
 

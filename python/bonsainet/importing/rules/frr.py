@@ -21,12 +21,12 @@ LOOPBACK = rule(
 )
 COMMUNITIES = rule(
     "frr-communities",
-    "FRR sends communities to each neighbour unless told otherwise",
+    "FRR sends communities to each neighbour unless a line says otherwise",
     "FRR user guide, BGP, `neighbor PEER send-community`",
 )
 POLICY = rule(
     "frr-requires-policy",
-    "without a policy FRR takes and gives no routes over external sessions, unless told otherwise",
+    "without a policy FRR takes and gives no routes over external sessions, unless a line says otherwise",
     "RFC 8212; FRR user guide, `bgp ebgp-requires-policy`",
 )
 UNKNOWN = rule(

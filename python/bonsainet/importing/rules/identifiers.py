@@ -36,7 +36,7 @@ def _addresses(router: Source, stanza: Stanza) -> list[IPv4Address]:
 
 
 def of_ospf(folder: Folder, _options: Options) -> None:
-    """Refuses one identifier of two OSPF routers: their link states would stand for each other. Cuts FRR's `ip
+    """Refuses one identifier of two OSPF routers: their link states would replace each other. Cuts FRR's `ip
     router-id`, which gives the identifier of each process that has none."""
     seen: dict[IPv4Address, Source] = {}
     for router in folder.routers:

@@ -31,7 +31,7 @@ def subject_of(line: Line, scope: str) -> Rule | None:
 
 @functools.cache
 def _heads_of(scope: str) -> dict[tuple[str, ...], list[tuple[int, list[str]]]]:
-    """The heads of a scope by their first two words, or three where any word may stand between, each with the place of
+    """The heads of a scope by their first two words, or three where any word may be between, each with the place of
     its subject."""
     found: dict[tuple[str, ...], list[tuple[int, list[str]]]] = {}
     for at, subject in enumerate(SUBJECTS):

@@ -1,7 +1,7 @@
 """Heads of lines without bearing on the IPv4 routes of BGP and OSPF at rest, by subject, each with its reason.
 
 Scopes are `top` (with all lines of the stanza), `interface`, `bgp`, `ospf` and `entry`. In a head `*` stands for any
-word. Heads that the program ignores by itself stand only where FRR writes them otherwise.
+word. Heads that the program ignores by itself are listed only where FRR writes them otherwise.
 """
 from __future__ import annotations
 
@@ -33,7 +33,7 @@ def _heads(text: str) -> tuple[str, ...]:
 TIMERS = Subject(
     rule(
         "timers",
-        "timers, liveness and restarts say when routes change, and not which stand at rest",
+        "timers, liveness and restarts say when routes change, and not which routes are held at rest",
         "RFC 4271 section 10, RFC 2328 section 9, RFC 5880",
     ),
     top=_heads("bfd | bfd-template | bgp route-map delay-timer | ip bfd | ip sla | no bfd | track"),

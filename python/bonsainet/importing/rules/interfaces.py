@@ -166,7 +166,7 @@ def _is_named(folder: Folder, address: IPv4Interface) -> bool:
 def _with_interface(
     folder: Folder, router: Source, stanza: Stanza, line: Line, address: IPv4Interface
 ) -> Stanza | None:
-    """The OSPF process. An area that stands on the interface takes in its secondary addresses too, unless it says
+    """The OSPF process. An area on the interface takes in its secondary addresses too, unless it says
     `secondaries none`."""
     process, own = router.process("ospf"), address_of(stanza)
     if not process or not own:

@@ -66,7 +66,7 @@ POINT_TO_POINT = ("Serial", "Tunnel", "POS", "Multilink")
 
 
 def areas(folder: Folder, _options: Options) -> None:
-    """Writes areas and passivity that stand on interfaces as lines of the process."""
+    """Writes areas and passivity given on interfaces as lines of the process."""
     for router in folder.routers:
         for stanza in list(router.interfaces):
             for line in [line for line in stanza.body if line.words[:2] == ["ip", "ospf"]]:
@@ -259,7 +259,7 @@ def _judge_unnumbered(folder: Folder, alone: list[Active]) -> None:
 
 
 def _judge_multipoint(folder: Folder, router: Source, stanza: Stanza) -> None:
-    """Refuses point-to-multipoint wherever it stands: also without neighbours it announces the address and not the
+    """Refuses point-to-multipoint everywhere: also without neighbours it announces the address and not the
     subnet."""
     line = first(stanza, "ip", "ospf", "network")
     if (

@@ -57,7 +57,7 @@ def _of_area(router: Source, process: Stanza, area: str) -> list[Stanza]:
 
 
 def ttl_security(folder: Folder, _options: Options) -> None:
-    """Refuses the check of the TTL where it does not stand on all ends of a link, and cuts it elsewhere."""
+    """Refuses the check of the TTL where not all ends of a link have it, and cuts it elsewhere."""
     if not any(has(stanza, *head) for router in folder.routers for stanza in router.stanzas for head in HEADS):
         return
     for subnet, wire in active_wires(folder).items():

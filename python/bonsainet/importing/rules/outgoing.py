@@ -1,4 +1,4 @@
-"""What leaves a router: the out maps of its neighbours, and entries that stand in front of them."""
+"""What leaves a router: the out maps of its neighbours, and entries in front of them."""
 from __future__ import annotations
 
 from collections import defaultdict
@@ -101,7 +101,7 @@ def _insert(
 def copied(
     folder: Folder, router: Source, process: Stanza, rule: Rule, lines: list[Line], old: list[Stanza]
 ) -> tuple[str, list[Stanza]]:
-    """A copy of a map for some of the lines that name it, since the others go on with the map as it stands."""
+    """A copy of a map for some of the lines that name it, since the others go on with the map unchanged."""
     name = fresh_name(router, f"{old[0].head.words[1]}-{lines[0].words[-1].upper()}"[:50])
     made = []
     for stanza in old:

@@ -1,4 +1,4 @@
-"""Shared AS numbers: each router of a shared number gets one of its own, as an assumption that is told."""
+"""Shared AS numbers: each router of a shared number gets one of its own, as an assumption that is reported."""
 from __future__ import annotations
 
 from collections import defaultdict
@@ -64,7 +64,7 @@ def _kept_apart(folder: Folder, shared: dict[int, list[Source]], peers: dict[int
 
 
 def _warn(folder: Folder, shared: dict[int, list[Source]], apart: dict[int, list[Source]]) -> None:
-    """Warns of the routers that reach each other here alone, but for those that a decision names."""
+    """Warns of the routers that reach each other here alone, except for those that a decision names."""
     meant = folder.decisions.own_as() if folder.decisions else {}
     for number, routers in shared.items():
         those = [router.name for router in routers if id(router) in apart]

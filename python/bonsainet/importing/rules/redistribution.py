@@ -52,7 +52,7 @@ def behind_connected(folder: Folder, _options: Options) -> None:
 
 
 def static_routes(folder: Folder, _options: Options) -> None:
-    """Cuts static routes that touch no route of BGP or OSPF, and tells what they mean for packets."""
+    """Cuts static routes that touch no route of BGP or OSPF, and reports what they mean for packets."""
     announced = _announced(folder)
     inside: list[str] = []
     for router in folder.routers:

@@ -11,7 +11,7 @@ from bonsainet.configs.text import Line, Place, Stanza
 
 
 def add(folder: Folder, options: Options) -> None:
-    """Adds the stubs, and tells of peers that are not in the folder."""
+    """Adds the stubs, and reports peers that are not in the folder."""
     for address, prefixes in options.stubs:
         _add(folder, address, prefixes)
     up = folder.up

@@ -8,6 +8,7 @@ import pytest
 from bonsainet.cli.command_line import Refused
 from bonsainet.importing.folder import Dialect, Folder
 from bonsainet.importing.read import read_folder, read_given
+from bonsainet.importing.rules.lists import prefix_list
 
 PLAIN = "hostname a\n!\ninterface Vlan1\n ip address 10.0.0.1 255.255.255.0\n!\nrouter ospf 1\n network 10.0.0.0 0.0.0.255 area 0\n!\n"
 
@@ -94,6 +95,11 @@ def test_files_of_frr(tmp_path: Path) -> None:
         " network 10.0.0.0/24 area 0",
     ]
     assert "test.py was not read" in " ".join(folder.log.remarks)
+
+
+def test_a_prefix_list_with_a_prefix_that_is_none_answers_nothing(tmp_path: Path) -> None:
+    folder = folder_of(tmp_path, a_cfg=PLAIN + "ip prefix-list P seq 5 permit 300.0.0.0/8\n")
+    assert prefix_list(folder.routers[0], "P") is None
 
 
 def test_files_without_a_router_are_told_at_once_or_left_out(tmp_path: Path) -> None:

@@ -288,7 +288,7 @@ def test_a_name_with_a_line_end_is_one_line(tmp_path: Path, program: Program) ->
     (tmp_path / "a\nb.cfg").write_text(A_BGP + " neighbor 172.16.0.2 local-as 65099\n")
     told = run_tool(str(tmp_path), "--report", "/dev/null").stderr
     assert told.splitlines() == [
-        "bonsai-import: 1 line is refused, the first at a?b.cfg:9; what is left to you can be told by --decisions, of which --suggest FILE writes a skeleton"
+        "bonsai-import: 1 line is refused, the first at a?b.cfg:9; decide them by --decisions, of which --suggest FILE writes a skeleton"
     ]
 
 

@@ -10,6 +10,7 @@ import re
 import pytest
 
 import bonsainet
+import bonsainet.library
 from bonsainet.ask.program import TOP
 
 # (each command of the page has its lines here: those that ask, and the last one, which gives what the page shows)
@@ -85,7 +86,7 @@ def test_each_command_of_the_page_is_asked() -> None:
     assert len(shown) == len([part for part in SCRIPT.split("\n\n") if part.strip()]) - 3 + 1
 
 
-@pytest.mark.parametrize("name", bonsainet.__all__)
+@pytest.mark.parametrize("name", bonsainet.library.__all__)
 def test_each_name_has_words(name: str) -> None:
     found = getattr(bonsainet, name)
     assert found.__doc__ and not found.__doc__.startswith(f"{name}(")

@@ -274,7 +274,7 @@ def test_a_router_without_its_end() -> None:
     to delete."""
     assert because(A.replace("end\n", "") + B) == [(6, "Repeated", None), (7, "Repeated", 6), (9, "Repeated", 6)]
     remedy = refusals(A.replace("end\n", "") + B).entries[0].remedy
-    assert remedy.index("whether `end` stands before that `hostname`") < remedy.index("keep the line")
+    assert remedy.index("whether `end` is before that `hostname`") < remedy.index("keep the line")
 
 
 @pytest.mark.parametrize("coding", ["utf-8:strict", "ascii:strict"])
