@@ -4,35 +4,39 @@ from __future__ import annotations
 
 import argparse
 import collections
-import concurrent.futures
 import dataclasses
+import functools
+import gc
 import importlib
 import json
 import os
 import random
 import shutil
-import signal
 import subprocess
 import time
 import zlib
+from collections.abc import Iterator
 from pathlib import Path
 
 from bonsainet.ask.program import TOP, Answer
 from bonsainet.ask.where import named_by
-from hostile import asked_shut
+from hostile import asked_shut, slices
 from hostile.asking import Asker
 from hostile.judge import answers, asked, asked_questions, asked_words, questions
 from hostile.judge.problem import Network
-from hostile.judge.rests import TooLarge
+from hostile.judge.reading import lines_of, split
+from hostile.judge.rests import Down, TooLarge
 from hostile.makers import asked as maker
-from hostile.makers import disputes, networks
-from hostile.slices import in_slices
+from hostile.makers import disputes, internets, networks
+from hostile.makers.shapes import shape
+from hostile.recording import keep_record, told_of
 
 CALLS = 8
 READERS = ("search", "solver")
-SLICE = 5.0
+SELDOM = 100_000
+"""How many objects are made between two looks for garbage: what is made here is let go of by itself."""
 REFUSED, USAGE = 1, 2
-FILES = 0.1
+FILES = 0.3
 """How many of the calls have a file of questions."""
 MEASURED = Path(__file__).resolve().parent / "measured"
 KEPT = MEASURED / "asked.json"
@@ -40,10 +44,12 @@ KEPT = MEASURED / "asked.json"
 
 @dataclasses.dataclass
 class Found:
-    """What was asked, by task and verdict, what was too large to judge, and what differs."""
+    """What was asked: texts by what they have; commands by task, of which a question of a file is one; calls of the program by
+    how they ended; what was too large to judge, and what differs."""
 
     texts: int = 0
-    calls: collections.Counter[str] = dataclasses.field(default_factory=collections.Counter)
+    kinds: collections.Counter[str] = dataclasses.field(default_factory=collections.Counter)
+    commands: collections.Counter[str] = dataclasses.field(default_factory=collections.Counter)
     ends: collections.Counter[str] = dataclasses.field(default_factory=collections.Counter)
     too_large: int = 0
     differences: list[str] = dataclasses.field(default_factory=list)
@@ -51,20 +57,39 @@ class Found:
     @property
     def asked(self) -> int:
         """How many commands were asked and judged."""
-        return sum(self.calls.values())
+        return sum(self.commands.values())
 
     def add(self, other: Found) -> None:
         """Takes what another job found to this."""
         self.texts += other.texts
-        self.calls += other.calls
+        self.kinds += other.kinds
+        self.commands += other.commands
         self.ends += other.ends
         self.too_large += other.too_large
         self.differences += other.differences
 
+    def note(self, words: list[str]) -> None:
+        """One more command."""
+        task = next((word for word in words if word in TASKS), "other")
+        self.commands[
+            ("failing " if "failing" in words else "") + ("without " if "without" in words else "") + task
+        ] += 1
+
+    def end(self, answer: Answer) -> None:
+        """One more call of the program."""
+        self.ends[f"status {answer.status}" + (" tied" if b" tied " in answer.out else "")] += 1
+
 
 def text_of(chance: random.Random) -> bytes:
-    """A network of either protocol; most are of BGP and dispute."""
-    return (disputes.text(chance) if chance.random() < 0.7 else networks.text(chance)).encode()
+    """A network of either protocol; most are of BGP, and many of these dispute."""
+    how = chance.random()
+    if how < 0.5:
+        return disputes.text(chance).encode()
+    if how < 0.7:
+        return networks.text(chance).encode()
+    if how < 0.85:
+        return networks.ospf(chance, shape(chance)).encode()
+    return (internets.text if how < 0.94 else internets.tied)(chance).encode()
 
 
 def fault(
@@ -140,31 +165,95 @@ def over_text(program: Asker, text: bytes, start: int, found: Found, how: How) -
     if not isinstance(net, answers.Expected) and answers.has_many_communities(net):
         return
     found.texts += 1
+    found.kinds.update(kinds_of(net))
     made = maker.Maker(chance, EMPTY if isinstance(net, answers.Expected) else net)
     for _ in range(how.calls if not isinstance(net, answers.Expected) else 1):
-        file = made.file() if chance.random() < FILES else None
-        words = made.words() if file is None else ["questions", "S"]
+        _ask(program, text, start, net, made, found, how)
+    if isinstance(net, answers.Expected) or (loss := asked_shut.loss_of(chance, text, net)) is None:
+        return
+    try:
+        _ask_lost(program, text, start, net, loss, found, how)
+    except TooLarge:
+        found.too_large += 1
+
+
+def kinds_of(net: Network | answers.Expected) -> Iterator[str]:
+    """What a text has, of which a run is to have many: a protocol, lone routers, and what exhaustive search finds of its
+    classes."""
+    if isinstance(net, answers.Expected):
+        yield "refused"
+        return
+    yield net.protocol
+    found = set()
+    for number in range(len(net.classes)):
         try:
-            answer = program.ask("F", *words, texts={"F": text} if file is None else {"F": text, "S": file})
-            why = fault(net, words, answer, reader_of(how.reader), file)
+            left, solutions = questions.solutions(net, number, Down())
         except TooLarge:
-            found.too_large += 1
             continue
-        except subprocess.TimeoutExpired:
-            answer, why = Answer(-1, b"", b""), "an answer in time"
-        task = next((word for word in words if word in TASKS), "other")
-        found.calls[("failing " if "failing" in words else "") + ("without " if "without" in words else "") + task] += 1
-        found.ends[f"status {answer.status}" + (" tied" if b" tied " in answer.out else "")] += 1
-        if why:
-            found.differences.append(_kept(how.keep, text, start, words, why, answer, file))
-
-    if not isinstance(net, answers.Expected):
-        differs = asked_shut.fault(program, chance, text, net)
-        found.calls["shut"] += 2
-        if differs:
-            found.differences.append(_kept(how.keep, text, start, *differs, Answer(-1, b"", b"")))
+        found |= {"lone"} if left.lone else set()
+        found |= {"none"} if not solutions else {"several"} if len(solutions) > 1 else set()
+    yield from sorted(found)
 
 
+def _ask(
+    program: Asker,
+    text: bytes,
+    start: int,
+    net: Network | answers.Expected,
+    made: maker.Maker,
+    found: Found,
+    how: How,
+) -> None:
+    """One call, with words or a file of questions."""
+    file = made.file() if made.chance.random() < FILES else None
+    words = made.words() if file is None else ["questions", "S"]
+    try:
+        answer = program.ask("F", *words, texts={"F": text} if file is None else {"F": text, "S": file})
+        why = fault(net, words, answer, reader_of(how.reader), file)
+    except TooLarge:
+        found.too_large += 1
+        return
+    except subprocess.TimeoutExpired:
+        answer, why = Answer(-1, b"", b""), "an answer in time"
+    for one in [words] if file is None or answer.status not in DONE else _questions_of(file):
+        found.note(one)
+    found.end(answer)
+    if why:
+        found.differences.append(_kept(how.keep, text, start, words, why, answer, file))
+
+
+def _questions_of(file: bytes) -> list[list[str]]:
+    """The words of each question of a file."""
+    lines = (split(line) for line in lines_of(file) if not line.startswith(b"!"))
+    return [line for line in lines if line]
+
+
+def _ask_lost(
+    program: Asker, text: bytes, start: int, net: Network, loss: asked_shut.Loss, found: Found, how: How
+) -> None:
+    """Both calls of a loss. The first is judged too."""
+    try:
+        without, after = asked_shut.asked(program, text, loss)
+    except subprocess.TimeoutExpired:
+        found.differences.append(
+            _kept(how.keep, text, start, loss.questions[0], "an answer in time", Answer(-1, b"", b""), loss.without)
+        )
+        return
+    words = ["questions", "S"]
+    why = fault(net, words, without, reader_of(how.reader), loss.without)
+    for one in loss.questions:
+        found.note(one)
+    found.commands["of the text that is shut"] += len(loss.questions)
+    found.kinds["shut"] += 1
+    for answer in (without, after):
+        found.end(answer)
+    if why:
+        found.differences.append(_kept(how.keep, text, start, words, why, without, loss.without))
+    if differs := asked_shut.fault(loss, without, after):
+        found.differences.append(_kept(how.keep, text, start, *differs, without, loss.without))
+
+
+DONE = (0, 8)
 TASKS = {*maker.TASKS, "questions", "route", "isolated", "hops", "through", "avoids", "carries", "lacks"}
 
 
@@ -183,7 +272,8 @@ def _kept(
 
 def part_of_job(how: How, number: int, turn: int, seconds: float) -> tuple[Found, int]:
     """A job's texts from a turn on, for some time, and the next turn."""
-    signal.signal(signal.SIGINT, signal.SIG_IGN)
+    slices.leave_signals()
+    gc.set_threshold(SELDOM)
     program, found, until = Asker(how.path), Found(), time.monotonic() + seconds
     try:
         while time.monotonic() < until:
@@ -197,19 +287,13 @@ def part_of_job(how: How, number: int, turn: int, seconds: float) -> tuple[Found
 
 def run(how: How, seconds: float, jobs: int, texts: int | None, commands: int | None) -> Found:
     """All jobs until their time is over, or as many texts or commands were asked."""
-    begun, found = time.monotonic(), Found()
-    with concurrent.futures.ProcessPoolExecutor(jobs) as pool:
+    found = Found()
 
-        def part(number: int, turn: int) -> concurrent.futures.Future[tuple[Found, int]]:
-            left = max(0.0, seconds - (time.monotonic() - begun))
-            return pool.submit(part_of_job, how, number, turn, min(SLICE, left))
+    def is_enough(more: Found) -> bool:
+        found.add(more)
+        return (texts is not None and found.texts >= texts) or (commands is not None and found.asked >= commands)
 
-        def goes_on() -> bool:
-            is_full = (texts is not None and found.texts >= texts) or (commands is not None and found.asked >= commands)
-            return time.monotonic() - begun < seconds and not is_full
-
-        for more in in_slices(part, jobs, goes_on):
-            found.add(more)
+    slices.work(functools.partial(part_of_job, how), jobs, seconds, is_enough)
     return found
 
 
@@ -256,15 +340,17 @@ def main(arguments: list[str] | None = None) -> int:
         "jobs": given.jobs,
         "load": [round(load, 1), round(os.getloadavg()[0], 1)],
         "seed": seed,
+        "program": told_of(Path(program)),
         "texts": found.texts,
-        "calls": found.asked,
-        "by_task": dict(sorted(found.calls.items())),
+        "by_kind": dict(sorted(found.kinds.items())),
+        "commands": found.asked,
+        "by_task": dict(sorted(found.commands.items())),
+        "calls": sum(found.ends.values()),
         "by_end": dict(sorted(found.ends.items())),
         "too_large": found.too_large,
         "differences": found.differences,
     }
     print(json.dumps(table, indent=1))
     if given.record:
-        kept = json.loads(KEPT.read_text("utf-8")) if KEPT.is_file() else {}
-        KEPT.write_text(json.dumps({**kept, given.record: table}, indent=1) + "\n", "utf-8")
+        keep_record(KEPT, given.record, table)
     return 1 if found.differences or not found.texts else 0

@@ -123,6 +123,10 @@ class Asked:
         self.program, self.counts = program, counts
         self.known: dict[tuple[object, ...], Answer] = {}
 
+    def has_canon(self) -> bool:
+        """Whether there is the command `canon`."""
+        return has_canon(self.program)
+
     def ask(self, text: bytes, *words: str, S: bytes = b"") -> Answer:
         """The answer to a command, of which F is this text and S that one. TimeoutExpired where none comes."""
         given = (text, words, S)

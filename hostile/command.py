@@ -10,7 +10,7 @@ import os
 import sys
 from pathlib import Path
 
-from hostile import running
+from hostile import everything, running
 from hostile.asking import Asker, Counts
 from bonsainet.ask.where import NoProgram
 from bonsainet.cli import streams
@@ -55,6 +55,12 @@ def words() -> argparse.ArgumentParser:
         type=Path,
         help="a file that keeps the program's answers, so that later runs over the same texts do not ask it again",
     )
+    parser.add_argument(
+        "--all",
+        action="store_true",
+        help="share the seconds with hostile/ask, hostile/frames and hostile/solve, and where FRR can be started run"
+        " hostile/events and hostile/losses once behind them; the other options but --jobs and --seed say nothing then",
+    )
     parser.add_argument("--text", type=Path, help="ask over this text alone, with --seed")
     parser.add_argument(
         "--only", type=int, metavar="NUMBER", help="ask over the text of this number alone, as a difference names it"
@@ -75,6 +81,8 @@ def main(arguments: list[str] | None = None) -> int:
     if given.jobs < 1:
         parser.error("--jobs is at least 1")
     seed = given.seed if given.seed is not None else int.from_bytes(os.urandom(3), "big")
+    if given.all:
+        return everything.run(given.seconds, given.jobs, seed)
     if given.only is not None:
         return _told(running.differences(Asker(), running.text_of(given.only), given.only, Counts()))
     if given.text:

@@ -5,7 +5,7 @@ import dataclasses
 import json
 import random
 
-from hostile.asking import Asked, has_canon
+from hostile.asking import Asked
 from hostile.judge import answers, canonical, certificates as judge, groups, labels, problem
 from hostile.judge.network import Refused
 from hostile.makers import certificates, labels as maker, solutions
@@ -35,6 +35,7 @@ class Comparison:
 
     def __init__(self, asked: Asked, text: bytes, seed: int, until: str | None = None) -> None:
         self.asked, self.text, self.until = asked, text, until
+        self.has_canon = asked.has_canon()
         self.chance = random.Random(seed)
         self.found: list[Difference] = []
 
@@ -73,14 +74,30 @@ class Comparison:
         word = str(number)
         whole = problem.problem(net, net.classes[number - 1])
         parts = groups.groups(whole)
+        self._written(net, number, whole, parts)
+        self._certificate(word, whole)
+        self._labels(net, word, whole, parts)
+
+    def frames(self, net: problem.Network, number: int) -> None:
+        """Asks what `bonsai-all` writes of a class too."""
+        whole = problem.problem(net, net.classes[number - 1])
+        self._written(net, number, whole, groups.groups(whole))
+        made = self._ask("certify", str(number))
+        try:
+            if made.status:
+                raise Refused(0, f"status {made.status}")
+            judge.Judge(whole).read(made.out)
+        except Refused as refused:
+            self._differ("certify", f"a certificate, not {refused}", made)
+
+    def _written(self, net: problem.Network, number: int, whole: problem.Problem, parts: list[list[int]]) -> None:
+        word = str(number)
         self._same("groups", self._ask("groups", word), answers.Expected(0, out=answers.group_lines(whole, parts)))
         self._same("report", self._ask("report", word), answers.Expected(0, out=answers.report(net, number)))
         self._json(net, number, whole, parts)
         self._compress(net, number)
-        if has_canon(self.asked.program):
+        if self.has_canon:
             self._canon(net, number, whole)
-        self._certificate(word, whole)
-        self._labels(net, word, whole, parts)
 
     def _json(self, net: problem.Network, number: int, whole: problem.Problem, parts: list[list[int]]) -> None:
         document = {

@@ -1,4 +1,5 @@
-"""`hostile/frames`: over made texts `bonsai-all` writes the frames of what `bonsai` writes class by class."""
+"""`hostile/frames`: over made texts `bonsai-all` writes the frames of what `bonsai` writes class by class, or what the second
+reader finds for each class."""
 
 from __future__ import annotations
 
@@ -22,9 +23,12 @@ from pathlib import Path
 from bonsainet.ask.program import TOP, Answer, Program, Status, classes_of
 from bonsainet.ask.where import NoProgram, named_by
 from bonsainet.cli.command_line import Refused
+from hostile import frames_judged
 from hostile.asking import Asker
 from hostile.makers import makers
+from hostile.recording import keep_record, told_of
 
+KEPT = Path(__file__).resolve().parent / "measured" / "frames.json"
 COMMANDS = ("groups", "compress", "report", "json", "canon", "certify")
 USAGE_LINE = b"usage: bonsai-all F groups|compress|report|json|canon|certify [FROM TO]\n"
 NOT_ALL = 8
@@ -45,9 +49,9 @@ OF_NO_FORM = (
 
 @dataclasses.dataclass(frozen=True)
 class Programs:
-    """The two programs, `bonsai` and `bonsai-all`."""
+    """The two programs, `bonsai` and `bonsai-all`. Without the first the second reader judges."""
 
-    one: Asker
+    one: Asker | None
     every: Asker
 
 
@@ -90,10 +94,20 @@ def ranges(chance: random.Random, count: int) -> Iterator[tuple[int, int]]:
     yield LARGEST_NUMBER - 1, LARGEST_NUMBER
 
 
+def judged(every: Asker, text: bytes, start: int) -> Found:
+    """Asks `bonsai-all` over one text, and judges each frame by the second reader."""
+    calls, frames, differ = frames_judged.over_text(every, text, start, COMMANDS)
+    told = [f"{start}: {one.command}: expected {one.expected}, answered {one.answered}" for one in differ]
+    return Found(1, collections.Counter(frames), collections.Counter(calls=calls), told)
+
+
 def over_text(programs: Programs, text: bytes, start: int) -> Found:
     """Asks both programs over one text, and compares."""
+    if programs.one is None:
+        return judged(programs.every, text, start)
     chance, found = random.Random(start), Found(texts=1)
-    told = programs.one.ask("classes", "F", texts={"F": text})
+    one = programs.one
+    told = one.ask("classes", "F", texts={"F": text})
 
     def compare(words: tuple[str, ...], expected: Answer) -> None:
         answer = programs.every.ask("F", *words, texts={"F": text})
@@ -108,10 +122,10 @@ def over_text(programs: Programs, text: bytes, start: int) -> Found:
             compare((command,), told)
             continue
         count = len(classes_of(told.text))
-        compare((command,), wanted(programs.one, text, command, range(1, count + 1), found))
+        compare((command,), wanted(one, text, command, range(1, count + 1), found))
         for first, last in ranges(chance, count):
             numbers = range(first, last + 1)
-            compare((command, str(first), str(last)), wanted(programs.one, text, command, numbers, found))
+            compare((command, str(first), str(last)), wanted(one, text, command, numbers, found))
     if not told.status and told.out:
         command = chance.choice(COMMANDS)
         for device in (full, closed_pipe):
@@ -168,12 +182,12 @@ def to_device(program: Asker, text: bytes, command: str, device: object) -> tupl
 
 
 @functools.cache
-def _programs(one: str, every: str) -> Programs:
+def _programs(one: str | None, every: str) -> Programs:
     signal.signal(signal.SIGINT, signal.SIG_IGN)
-    return Programs(Asker(one), Asker(every))
+    return Programs(Asker(one) if one else None, Asker(every))
 
 
-def part_of_job(one: str, every: str, seed: int, places: range, keep: Path) -> Found:
+def part_of_job(one: str | None, every: str, seed: int, places: range, keep: Path) -> Found:
     """Some texts of a run."""
     found = Found()
     for place in places:
@@ -193,7 +207,7 @@ def part_of_job(one: str, every: str, seed: int, places: range, keep: Path) -> F
 AT_ONCE = 20
 
 
-def run(one: str, every: str, given: argparse.Namespace, seed: int) -> Found:
+def run(one: str | None, every: str, given: argparse.Namespace, seed: int) -> Found:
     """Texts by several jobs until there are enough, or the time is over."""
     found, until = Found(), time.monotonic() + given.seconds
     with concurrent.futures.ProcessPoolExecutor(given.jobs) as pool:
@@ -220,6 +234,13 @@ def words() -> argparse.ArgumentParser:
     )
     parser.add_argument("--one", metavar="PROGRAM", help="the program bonsai (default: the one that ./bonsai names)")
     parser.add_argument("--every", metavar="PROGRAM", help="the program bonsai-all (default: by ./bonsai-all)")
+    parser.add_argument(
+        "--by",
+        choices=("bonsai", "reader"),
+        default="bonsai",
+        help="who says what a frame must be: bonsai (default), or the second reader",
+    )
+    parser.add_argument("--record", metavar="NAME", help=f"keep the counts in measured/{KEPT.name} by this name")
     parser.add_argument("--texts", type=int, default=200, help="how many texts (default 200)")
     parser.add_argument("--seconds", type=float, default=600, help="begin no text after so long (default 600)")
     parser.add_argument("--jobs", type=int, default=2, help="how many processes (default 2)")
@@ -234,13 +255,20 @@ def main(arguments: list[str] | None = None) -> int:
     given = parser.parse_args(arguments)
     seed = given.seed if given.seed is not None else int.from_bytes(os.urandom(3), "big")
     try:
-        one = given.one or Program().path
+        one = None if given.by == "reader" else os.path.abspath(given.one or Program().path)
         every = given.every or named_by(str(TOP / "bonsai-all"))
     except (Refused, NoProgram, FileNotFoundError) as why:
         print(f"hostile/frames: refused: {why}", file=sys.stderr)
         return 1
-    found = run(os.path.abspath(one), os.path.abspath(every), given, seed)
+    load, begun = os.getloadavg()[0], time.monotonic()
+    found = run(one, os.path.abspath(every), given, seed)
     table = {
+        "date": time.strftime("%Y-%m-%d"),
+        "by": given.by,
+        "seconds": round(time.monotonic() - begun),
+        "jobs": given.jobs,
+        "load": [round(load, 1), round(os.getloadavg()[0], 1)],
+        "program": told_of(Path(every)),
         "seed": seed,
         "texts": found.texts,
         "frames": sum(found.frames.values()),
@@ -249,4 +277,6 @@ def main(arguments: list[str] | None = None) -> int:
         "differences": found.differences,
     }
     print(json.dumps(table, indent=1))
+    if given.record:
+        keep_record(KEPT, given.record, table)
     return 1 if found.differences or not found.texts else 0

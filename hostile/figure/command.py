@@ -43,6 +43,11 @@ def main(arguments: list[str] | None = None) -> int:
         help="measure nothing else: put into the kept rows what FRR takes, which needs root",
     )
     parser.add_argument(
+        "--more",
+        action="store_true",
+        help="take from the kept rows what Z3 took where it was not given up, and what FRR took",
+    )
+    parser.add_argument(
         "--again",
         action="store_true",
         help="measure the two programs alone, over the kept rows: what Z3 and FRR took stays",
@@ -67,7 +72,9 @@ def main(arguments: list[str] | None = None) -> int:
         print("asked: the program z3 is not there: install the package z3", file=sys.stderr)
         return 1
     bonsai, ask = program_at(given.bonsai), program_at(given.ask)
+    known = {(row.family, row.size): row for row in read(KEPT)} if given.more else {}
     rows = [row for row in read(KEPT) if given.only and row.family not in given.only] if given.keep else []
+    frr = KEPT.read_text("ascii").partition("\n")[0].partition("; FRR: ")[2] if given.more else ""
     load = os.getloadavg()[0]
     measuring.MOST_SECONDS = given.limit
     try:
@@ -77,11 +84,12 @@ def main(arguments: list[str] | None = None) -> int:
             last = None
             for size in family.sizes:
                 if size <= given.most:
-                    last = measured(bonsai, ask, family, size, last)
+                    last = measured(bonsai, ask, family, size, last, known.get((family.name, size)))
                     rows.append(last)
                     print(f"asked: {last}", file=sys.stderr, flush=True)
                     if given.keep:
-                        keep(rows, _told(load, bonsai, ask, given.limit))
+                        told = _told(load, bonsai, ask, given.limit)
+                        keep(rows, f"{told}; FRR: {frr}" if frr else told)
     except (Disagreement, Refused) as why:
         print(f"asked: {why}", file=sys.stderr)
         return 1

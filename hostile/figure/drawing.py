@@ -13,12 +13,14 @@ from hostile.figure.measuring import Row
 PAGE = TOP / "docs" / "inside" / "MEASURED.md"
 PICTURE = TOP / "docs" / "data" / "asked.svg"
 LEAST = 0.001
-TOP_OF_PLOT = 60.0
+TOP_OF_PLOT = 100.0
 SERIES = (
     ("solver", "Z3, large", "#b2182b", "-"),
     ("solver_after", "Z3, small", "#b2182b", ":"),
     ("ask", "bonsai-ask, large", "#2166ac", "-"),
     ("ask_after", "bonsai-ask, small", "#2166ac", ":"),
+    ("frr", "FRR, large", "#4d9221", "-"),
+    ("frr_after", "FRR, small", "#4d9221", ":"),
     ("compress", "compress", "#666666", "--"),
 )
 

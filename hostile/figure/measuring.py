@@ -139,8 +139,9 @@ def on_frr(text: str, prefix: str) -> tuple[float, float]:
     return record["work"], record["rest"]
 
 
-def measured(bonsai: Path, ask: Path, family: Family, size: int, before: Row | None) -> Row:
-    """The row of a size. What was given up at the size before is not tried again. Disagreement where answers differ."""
+def measured(bonsai: Path, ask: Path, family: Family, size: int, before: Row | None, known: Row | None = None) -> Row:
+    """The row of a size. What was given up at the size before is not tried again; what the solver took in a known row is
+    taken from there, unless it was given up. Disagreement where answers differ."""
     text, prefix = family.text(size), family.prefix
     small = compressed(bonsai, text, prefix)
     told: dict[str, str] = {}
@@ -150,7 +151,10 @@ def measured(bonsai: Path, ask: Path, family: Family, size: int, before: Row | N
             if before and getattr(before, who + name) in (None, GAVE_UP):
                 found[who + name] = None
                 continue
-            answer, seconds = by_solver(given, prefix) if who == "solver" else by_program(ask, given, prefix)
+            if who == "solver":
+                answer, seconds = _known_to_solver(known, name) or by_solver(given, prefix)
+            else:
+                answer, seconds = by_program(ask, given, prefix)
             found[who + name] = seconds
             if seconds != GAVE_UP:
                 told[who + name] = answer
@@ -160,7 +164,14 @@ def measured(bonsai: Path, ask: Path, family: Family, size: int, before: Row | N
     return Row(
         family.name, size, of.routers, of.links, of.groups, of.links_after, next(iter(told.values()), ""), small.seconds,
         found["solver"], found["solver_after"], found["ask"], found["ask_after"],
+        *(known.frr, known.frr_after, known.rest, known.rest_after) if known else (),
     )  # fmt: skip
+
+
+def _known_to_solver(known: Row | None, name: str) -> tuple[str, float] | None:
+    """The answer and the seconds that a row has of the solver, or None."""
+    seconds = getattr(known, f"solver{name}") if known else None
+    return None if not known or seconds in (None, GAVE_UP) else (known.answer, seconds)
 
 
 def measure_programs(bonsai: Path, ask: Path, family: Family, row: Row) -> None:

@@ -10,7 +10,7 @@ from typing import Protocol
 
 from hostile.judge import labels, questions, rests
 from hostile.judge.network import Refused
-from hostile.judge.problem import Network, Problem, problem
+from hostile.judge.problem import Network, Problem
 from hostile.judge.questions import Question, Verdict
 from hostile.judge.rests import Down
 from hostile.judge.ties import Word, ties
@@ -117,7 +117,7 @@ class Judge:
             raise Differs(f"{call.task} {sorted(wanted)}")
 
     def _left(self, number: int, down: Down) -> Problem:
-        return rests.without(problem(self.net, self.net.classes[number]), down)
+        return questions.left_of(self.net, number, down)
 
     def _asked(self, call: Call, number: int, lines: Lines) -> bool:
         assert call.question
@@ -171,9 +171,9 @@ def end(lines: Lines, status: int, is_good: bool) -> None:
         raise Differs(f"status {0 if is_good else 8}")
 
 
-@functools.lru_cache(64)
+@functools.lru_cache(512)
 def _ties(net: Network, number: int, down: Down) -> dict[str, frozenset[Word]] | None:
-    return ties(rests.without(problem(net, net.classes[number]), down))
+    return ties(questions.left_of(net, number, down))
 
 
 def judge(net: Network, call: Call, status: int, out: str, reader: Reader = questions) -> None:

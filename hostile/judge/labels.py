@@ -76,8 +76,8 @@ def key(problem: Problem, label: Label) -> Any:
     """What labels are compared by: the least is the best."""
     if not isinstance(label, Route):
         return label
-    lone = {problem.numbers[place] for place in problem.lone}
-    return -label.preference, len(label.path), sorted(label.communities), sorted(lone & set(label.path))
+    lone = problem.lone_numbers.intersection(label.path)
+    return -label.preference, len(label.path), sorted(label.communities), sorted(lone)
 
 
 def offered(problem: Problem, edge: Edge, label: Label) -> Label:
@@ -86,20 +86,19 @@ def offered(problem: Problem, edge: Edge, label: Label) -> Label:
         return None
     if not isinstance(label, Route):
         return label + edge.act if label + edge.act <= words.MOST else None
-    result = edge.act[problem.sets.index(_seen(problem, label.communities))]
+    result = edge.act[problem.places[_seen(problem, label.communities)]]
     if result is None:
         return None
     preference, communities, count = result
     if problem.unnamed in communities:
-        communities = communities - {problem.unnamed} | (label.communities - (problem.sets[-1] - {problem.unnamed}))
+        communities = communities - {problem.unnamed} | (label.communities - problem.distinguished)
     path = (problem.numbers[edge.exporter],) * (count + 1) + label.path
     return None if problem.numbers[edge.importer] in path else Route(preference, path, communities)
 
 
 def _seen(problem: Problem, carried: frozenset[int]) -> frozenset[int]:
     """The carried set as acts list it: one community stands for all that no line names."""
-    named = problem.sets[-1] - {problem.unnamed}
-    return carried & named | (frozenset([problem.unnamed]) if carried - named else frozenset())
+    return carried if carried <= problem.distinguished else carried & problem.distinguished | {problem.unnamed}
 
 
 def start(problem: Problem, place: int) -> Label:

@@ -38,6 +38,21 @@ class Problem:
     link_count: int
     unnamed: int
 
+    @functools.cached_property
+    def places(self) -> dict[frozenset[int], int]:
+        """The place of each set in `sets`."""
+        return {held: place for place, held in enumerate(self.sets)}
+
+    @functools.cached_property
+    def distinguished(self) -> frozenset[int]:
+        """The communities that acts distinguish."""
+        return self.sets[-1] - {self.unnamed}
+
+    @functools.cached_property
+    def lone_numbers(self) -> frozenset[int]:
+        """The AS numbers of lone routers."""
+        return frozenset(self.numbers[place] for place in self.lone)
+
 
 @dataclasses.dataclass(eq=False)
 class Class:

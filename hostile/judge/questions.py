@@ -25,7 +25,7 @@ class Question:
 
 @dataclasses.dataclass(frozen=True)
 class Verdict:
-    """The answer for one problem, and whether ties can change it."""
+    """The answer for one problem, and whether ties can change it, which they cannot where it is `no`."""
 
     word: str
     ties_matter: bool
@@ -74,37 +74,44 @@ def _reached(whole: Problem, given: list[Label], place: int, closed: set[int]) -
     return found
 
 
-@functools.lru_cache(64)
-def _rests(net: Network, number: int, down: Down) -> tuple[Problem, list[list[Label]], bool]:
-    left = rests.without(problem(net, net.classes[number]), down)
-    return left, rests.solutions(left), rests.ties_matter(left)
+@functools.lru_cache(512)
+def left_of(net: Network, number: int, down: Down) -> Problem:
+    """The problem of a class, by its place, without something."""
+    return rests.without(problem(net, net.classes[number]), down)
 
 
+@functools.lru_cache(512)
 def solutions(net: Network, number: int, down: Down) -> tuple[Problem, list[list[Label]]]:
     """The problem of a class, by its place, without something, and its solutions."""
-    left, found, _ = _rests(net, number, down)
-    return left, found
+    left = left_of(net, number, down)
+    return left, rests.solutions(left)
+
+
+@functools.lru_cache(512)
+def ties_matter(net: Network, number: int, down: Down) -> bool:
+    """Whether routers may rest otherwise than the solutions say."""
+    left, found = solutions(net, number, down)
+    return rests.ties_matter(left, found)
 
 
 def keys(net: Network, number: int, down: Down) -> list[str]:
     """The keys of each solution, as text."""
-    left, found, _ = _rests(net, number, down)
+    left, found = solutions(net, number, down)
     return [repr(rests.keys(left, given)) for given in found]
 
 
 def forwards(net: Network, number: int, down: Down) -> list[str]:
     """The lines of `forwards` for each solution."""
-    left, found, _ = _rests(net, number, down)
+    left, found = solutions(net, number, down)
     return ["\n".join(forward_lines(left, given)) for given in found]
 
 
 def verdict(net: Network, number: int, question: Question, down: Down) -> Verdict:
     """The answer to a question about a class without something."""
-    left, found, ties = _rests(net, number, down)
-    if not found:
-        return Verdict("none", ties)
-    holds = all(is_true(left, given, question, down) for given in found)
-    return Verdict("yes" if holds else "no", ties)
+    left, found = solutions(net, number, down)
+    if not all(is_true(left, given, question, down) for given in found):
+        return Verdict("no", False)
+    return Verdict("yes" if found else "none", ties_matter(net, number, down))
 
 
 def link_names(net: Network) -> list[str]:

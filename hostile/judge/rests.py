@@ -3,6 +3,7 @@
 from __future__ import annotations
 
 import dataclasses
+import functools
 from collections.abc import Iterator
 
 from hostile.judge import labels
@@ -67,6 +68,7 @@ class Held:
             one = one.behind
 
 
+@functools.lru_cache(8)
 def routes(whole: Problem) -> dict[int, list[Held]]:
     """For each router the routes that come to it over paths without a loop."""
     into: dict[int, list[Edge]] = {}
@@ -99,22 +101,44 @@ def weak_key(problem: Problem, label: Label) -> object:
 
 
 class _Search:
-    """Assigns routes to routers one after another, and takes back what a neighbour contradicts."""
+    """Assigns routes to routers one after another, and takes back what a neighbour contradicts.
 
-    def __init__(self, whole: Problem, compare) -> None:
-        self.whole, self.compare = whole, compare
-        self.routes = routes(whole)
-        self.held: dict[int, Label] = {}
-        self.found: dict[tuple[Label, ...], None] = {}
-        self.steps = 0
-        self.own: dict[int, list[Edge]] = {}
+    Labels are numbers here, 0 where there is none, and what an edge makes of one is worked out once."""
+
+    def __init__(self, whole: Problem) -> None:
+        self.whole = whole
+        self.labels: list[Label] = [None]
+        self.numbers: dict[Label, int] = {None: 0}
+        self.weak: list[object] = [None]
+        self.chains = [self._chains(place, found) for place, found in sorted(routes(whole).items())]
+        self.own: list[list[tuple[Edge, dict[int, int]]]] = [[] for _ in whole.names]
+        self.importers: list[set[int]] = [set() for _ in whole.names]
         for edge in whole.edges:
-            self.own.setdefault(edge.importer, []).append(edge)
+            self.own[edge.importer].append((edge, {0: 0}))
+            self.importers[edge.exporter].add(edge.importer)
+        self.starts = {place: self._number(labels.start(whole, place)) for place in whole.initial}
+        self.held: dict[int, int] = {}
+        self.found: dict[tuple[int, ...], None] = {}
+        self.steps = 0
+
+    def _number(self, label: Label) -> int:
+        if label not in self.numbers:
+            self.numbers[label] = len(self.labels)
+            self.labels.append(label)
+            self.weak.append(weak_key(self.whole, label))
+        return self.numbers[label]
+
+    def _chains(self, place: int, found: list[Held]) -> list[dict[int, int]]:
+        """What a router may hold, with what the routers behind it then hold: each once, and first nothing."""
+        seen: dict[tuple[tuple[int, int], ...], None] = {((place, 0),): None}
+        for held in found:
+            seen[tuple(sorted((one.router, self._number(one.label)) for one in held.chain()))] = None
+        return [dict(one) for one in seen]
 
     def run(self) -> list[list[Label]]:
         """All labels that rest."""
         self._next(0)
-        return [list(one) for one in self.found]
+        return [[self.labels[number] for number in given] for given in self.found]
 
     def _next(self, place: int) -> None:
         self.steps += 1
@@ -123,46 +147,44 @@ class _Search:
         while place in self.held:
             place += 1
         if place == len(self.whole.names):
-            given = [self.held[router] for router in range(place)]
-            if all(self._rests(router, given) for router in range(place)):
-                self.found[tuple(given)] = None
+            if all(self._is_offered(router) for router in range(place)):
+                self.found[tuple(self.held[router] for router in range(place))] = None
             return
-        self._try(place, {place: None})
-        seen = set()
-        for held in self.routes[place]:
-            chain = {one.router: one.label for one in held.chain()}
-            key = tuple(sorted(chain.items(), key=lambda item: item[0]))
-            if key not in seen:
-                seen.add(key)
-                self._try(place, chain)
+        for chain in self.chains[place]:
+            self._try(place, chain)
 
-    def _try(self, place: int, more: dict[int, Label]) -> None:
-        if any(router in self.held and self.held[router] != label for router, label in more.items()):
+    def _try(self, place: int, chain: dict[int, int]) -> None:
+        if any(self.held.get(router, label) != label for router, label in chain.items()):
             return
-        new = {router: label for router, label in more.items() if router not in self.held}
+        new = {router: label for router, label in chain.items() if router not in self.held}
         self.held.update(new)
-        if all(self._may_rest(router) for router in self.held):
+        affected = set(new).union(*(self.importers[router] for router in new)) & self.held.keys()
+        if all(self._may_rest(router) for router in affected):
             self._next(place)
         for router in new:
             del self.held[router]
 
+    def _offers(self, router: int) -> Iterator[int]:
+        """The routes that a router has from itself and from routers that have their labels."""
+        if router in self.starts:
+            yield self.starts[router]
+        for edge, made in self.own[router]:
+            label = self.held.get(edge.exporter, 0)
+            if label not in made:
+                made[label] = self._number(labels.offered(self.whole, edge, self.labels[label]))
+            if made[label]:
+                yield made[label]
+
     def _may_rest(self, router: int) -> bool:
         """Whether no route from a router that has its label is better than the router's own."""
         mine = self.held[router]
-        offers = [labels.start(self.whole, router)] if router in self.whole.initial else []
-        for edge in self.own.get(router, []):
-            if edge.exporter in self.held:
-                offers.append(labels.offered(self.whole, edge, self.held[edge.exporter]))
-        found = [one for one in offers if one is not None]
-        if mine is None:
-            return not found
-        return all(self.compare(self.whole, one) >= self.compare(self.whole, mine) for one in found)
+        if not mine:
+            return not any(self._offers(router))
+        return all(self.weak[one] >= self.weak[mine] for one in self._offers(router))  # type: ignore[operator]
 
-    def _rests(self, router: int, given: list[Label]) -> bool:
-        mine, found = given[router], labels.candidates(self.whole, given, router)
-        if mine is None or not found:
-            return mine is None and not found
-        return mine in found and min(self.compare(self.whole, one) for one in found) == self.compare(self.whole, mine)
+    def _is_offered(self, router: int) -> bool:
+        """Whether a router's label is among the routes that it has; none is better, as each was tried when it came."""
+        return not self.held[router] or self.held[router] in self._offers(router)
 
 
 def keys(whole: Problem, given: list[Label]) -> tuple[object, ...]:
@@ -171,16 +193,19 @@ def keys(whole: Problem, given: list[Label]) -> tuple[object, ...]:
 
 
 def solutions(whole: Problem) -> list[list[Label]]:
-    """All stable labels, one for each different keys."""
+    """All stable labels, one for each different keys. What is best by its key is best but for ties, so all are among the weak
+    rests."""
     found: dict[tuple[object, ...], list[Label]] = {}
-    for given in _Search(whole, lambda problem, label: labels.key(problem, label)).run():
-        found.setdefault(keys(whole, given), given)
+    for given in weak_rests(whole):
+        if labels.fault(whole, given) is None:
+            found.setdefault(keys(whole, given), given)
     return list(found.values())
 
 
+@functools.lru_cache(8)
 def weak_rests(whole: Problem) -> list[list[Label]]:
     """All labels in which routers may rest however they break ties."""
-    return _Search(whole, weak_key).run()
+    return _Search(whole).run()
 
 
 def forwards_weakly(whole: Problem, given: list[Label], place: int) -> set[int]:
@@ -194,9 +219,9 @@ def forwards_weakly(whole: Problem, given: list[Label], place: int) -> set[int]:
     return {edge.exporter for edge, route in routes if route is not None and weak_key(whole, route) == mine}
 
 
-def ties_matter(whole: Problem) -> bool:
-    """Whether routers may rest in keys, or forward to routers, of no stable labels."""
-    stable = {keys(whole, given): given for given in solutions(whole)}
+def ties_matter(whole: Problem, found: list[list[Label]]) -> bool:
+    """Whether routers may rest in keys, or forward to routers, of none of the stable labels that were found."""
+    stable = {keys(whole, given): given for given in found}
     for given in weak_rests(whole):
         same = stable.get(keys(whole, given))
         if same is None:

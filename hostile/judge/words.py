@@ -1,6 +1,7 @@
 """Words of a configuration, as the table of words in docs/use/LINES.md has them. None is: not such a word."""
 from __future__ import annotations
 
+import functools
 import re
 from collections.abc import Iterable
 from typing import TypeVar
@@ -11,6 +12,8 @@ MOST = 4294967295
 WELL_KNOWN_FROM = 4294901760
 WELL_KNOWN_WORDS = {"internet", "no-export", "no-advertise", "local-AS", "gshut"}
 WELL_KNOWN = -1
+KEPT = 10_000
+"""Of so many words it is kept what they are."""
 
 Prefix = tuple[int, int]
 """An address and a length; the bits behind the length are 0."""
@@ -23,6 +26,7 @@ def all_given(values: Iterable[Any | None]) -> list[Any] | None:
     return given if len(given) == len(found) else None
 
 
+@functools.lru_cache(KEPT)
 def number(word: str, least: int = 0, most: int = MOST) -> int | None:
     """A number from `least` to `most`."""
     if not re.fullmatch(r"0|[1-9][0-9]{0,9}", word):
@@ -31,6 +35,7 @@ def number(word: str, least: int = 0, most: int = MOST) -> int | None:
     return value if least <= value <= most else None
 
 
+@functools.lru_cache(KEPT)
 def address(word: str) -> int | None:
     """Four numbers from 0 to 255, joined by points."""
     parts = all_given(number(part, 0, 255) for part in word.split("."))
@@ -39,6 +44,7 @@ def address(word: str) -> int | None:
     return parts[0] << 24 | parts[1] << 16 | parts[2] << 8 | parts[3]
 
 
+@functools.lru_cache(KEPT)
 def mask(word: str) -> int | None:
     """The length, 1 to 32, of an address that is ones and then zeros."""
     value = address(word)
@@ -63,6 +69,7 @@ def prefix(word: str) -> Prefix | None:
     return None if not slash or value is None or size is None else cut(value, size)
 
 
+@functools.lru_cache(KEPT)
 def community(word: str) -> int | None:
     """A community's value; WELL_KNOWN for one that is refused as such."""
     if word in WELL_KNOWN_WORDS:
@@ -84,11 +91,13 @@ def community_key(word: str) -> object:
     return word if word in WELL_KNOWN_WORDS else 65536 * int(high) + int(low) if colon else int(word)
 
 
+@functools.lru_cache(KEPT)
 def router_name(word: str) -> bool:
     """1 to 63 letters, digits, `-`, `_` and `.`, first a letter or digit."""
     return bool(re.fullmatch(r"[A-Za-z0-9][A-Za-z0-9_.-]{0,62}", word))
 
 
+@functools.lru_cache(KEPT)
 def interface_name(word: str) -> bool:
     """1 to 63 letters, digits, `/`, `.`, `:` and `-`, first a letter, with a digit."""
     return bool(re.fullmatch(r"[A-Za-z][A-Za-z0-9/.:-]{0,62}", word)) and any(sign.isdigit() for sign in word)

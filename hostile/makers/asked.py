@@ -18,7 +18,7 @@ class Maker:
         self.chance, self.net = chance, net
         self.names = [router.name for router in net.routers]
 
-    def words(self) -> list[str]:
+    def words(self, may_be_wrong: bool = True) -> list[str]:
         """The words of one call."""
         made = [self._classes()]
         if self.chance.random() < 0.35:
@@ -27,9 +27,9 @@ class Maker:
         if how < 0.3:
             made.append(self.chance.choice(TASKS))
         else:
-            made += ["failing", self.chance.choice(["links", "routers"])] if how < 0.55 else []
+            made += ["failing", self.chance.choice(["links", "routers"])] if how < 0.45 else []
             made += self.question()
-        return self._spoilt(made) if self.chance.random() < 0.08 else made
+        return self._spoilt(made) if may_be_wrong and self.chance.random() < 0.08 else made
 
     def _classes(self) -> str:
         count = len(self.net.classes)
@@ -77,13 +77,15 @@ class Maker:
         return [word, self._some()]
 
     def file(self) -> bytes:
-        """A file of questions: the words of some calls, with comments and empty lines between them, and blanks anywhere."""
+        """A file of questions: the words of some calls, with comments and empty lines between them, and blanks anywhere. One in
+        three may have wrong words, since a file with some is refused whole."""
         lines: list[str] = []
-        for _ in range(self.chance.randint(1, 5)):
+        may_be_wrong = self.chance.random() < 0.33
+        for _ in range(self.chance.randint(1, 7)):
             lines += self.chance.choice([[], [], [], [""], ["! a comment"], ["  \t"], ["!"]])
             blank = self.chance.choice([" ", " ", "  ", "\t"])
             start = self.chance.choice(["", "", "", " ", "\t"])
-            lines.append(start + blank.join(self.words()) + self.chance.choice(["", "", " ", "\r"]))
+            lines.append(start + blank.join(self.words(may_be_wrong)) + self.chance.choice(["", "", " ", "\r"]))
         end = self.chance.choice(["\n", "\n", ""])
         return ("\n".join(lines) + end).encode()
 

@@ -44,7 +44,8 @@ def gadget(chance: random.Random, name: str, pairs: list[tuple[int, int]]) -> st
     return "".join(f"{line}\n" for line in lines)
 
 
-def _start(one: Shape, place: int) -> list[str]:
+def start(one: Shape, place: int) -> list[str]:
+    """The lines of a router up to its networks."""
     lines = [f"hostname r{place}"]
     for number, (prefix, length) in enumerate(one.origins.get(place, []), 1):
         lines += [f"interface Vlan{number}", f" ip address {own_address(prefix, length, place)} {mask(length)}"]
@@ -55,7 +56,7 @@ def _start(one: Shape, place: int) -> list[str]:
 
 
 def _plain(one: Shape, place: int, prefer: list[int], is_bad: bool) -> list[str]:
-    lines = _start(one, place)
+    lines = start(one, place)
     for _, other, _, far in ports(one, place):
         lines += [f" neighbor {far} remote-as {65001 + other}", f" neighbor {far} send-community"]
         lines += [f" neighbor {far} route-map LIKE in"] if other in prefer else []
@@ -67,7 +68,7 @@ def _plain(one: Shape, place: int, prefer: list[int], is_bad: bool) -> list[str]
 
 
 def _router(chance: random.Random, one: Shape, place: int, wild: float, tagged: bool) -> list[str]:
-    lines, maps = _start(one, place), []
+    lines, maps = start(one, place), []
     for number, other, _, far in ports(one, place):
         lines.append(f" neighbor {far} remote-as {65001 + other}")
         lines += [f" neighbor {far} send-community"] if tagged else []

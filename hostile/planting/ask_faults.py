@@ -67,12 +67,11 @@ ASK = [
         "a router that was settled may be offered something better",
     ),
     _of(
-        "tie-behind",
-        "solution_search/src/settling.rt",
-        "Rank::TiedWorse(by) => {\n            note_tie(board, router, by);\n            Outcome::Fine",
-        "Rank::TiedWorse(by) => {\n            if !PLANTED {\n                note_tie(board, router, by);\n            }\n"
-        "            Outcome::Fine",
-        "an offer that ties and comes behind the label is no tie",
+        "tie-forgotten",
+        "solution_search/src/bests.rt",
+        "            if is_told(best.tied, difference) {",
+        "            if is_told(best.tied, difference) || PLANTED {",
+        "an offer that ties with the best one so far, and comes behind it, is no tie",
     ),
     _of(
         "never-waits",

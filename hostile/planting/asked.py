@@ -23,6 +23,7 @@ PAGE = TOP / "hostile" / "README.md"
 BEGIN = "<!-- ask faults: this table is written by hostile/plant --asked --record -->"
 END = "<!-- ask faults: end -->"
 TEXTS = 20
+CALLS = 8
 
 
 @dataclasses.dataclass(frozen=True)
@@ -36,7 +37,7 @@ class Seen:
 
 def asked_over(program: Path, seed: int, seconds: float, keep: Path) -> tuple[int, list[str]]:
     """Asks `hostile/ask` over some texts: how many, and the words of each command that differs."""
-    found = run(How(str(program), seed, "search", 8, keep), seconds, 1, TEXTS, None)
+    found = run(How(str(program), seed, "search", CALLS, keep), seconds, 1, TEXTS, None)
     told = (re.match(r"words (.*)\n", (keep / f"{name}.txt").read_text("utf-8")) for name in found.differences)
     return found.texts, [one[1] for one in told if one]
 

@@ -153,7 +153,7 @@ FAULTS = [
         "ties-of-lone",
         "stability",
         "labels.py",
-        "sorted(label.communities), sorted(lone & set(label.path))",
+        "sorted(label.communities), sorted(lone)",
         "sorted(label.communities)",
         "lone routers on a path break no tie",
     ),

@@ -32,7 +32,7 @@ from hostile.solver.formulas import (
     total,
 )
 from hostile.solver.policies import OTHER, default_preference, named_preferences, session
-from hostile.solver.smt import Solver
+from hostile.solver import smt
 
 
 @dataclasses.dataclass
@@ -122,12 +122,6 @@ def ways(net: Network, down: Down) -> list[Way]:
     return found
 
 
-@functools.cache
-def _asking() -> Solver:
-    """The process that tells what preferences are accepted."""
-    return Solver()
-
-
 @functools.lru_cache(5000)
 def _accepted(net: Network, number: int, importer: int, exporter: int, near: int, far: int) -> frozenset[int]:
     """The preferences that routes over a session can get, whatever communities they hold; `near` and `far` are the
@@ -137,17 +131,15 @@ def _accepted(net: Network, number: int, importer: int, exporter: int, near: int
     inward, outward, writer = mine.bgp.neighbors[near], its.bgp.neighbors[far], Writer()
     carried: Bits = {value: writer.variable(f"c{value}", "Bool") for value in [OTHER, *sorted(named(net.routers))]}
     passed = session(writer, mine, inward, its, outward, net.classes[number].prefixes[0], carried)
-    found = set()
-    for value in named_preferences(mine, inward):
-        asked = conjunction([passed.accepts, equal(passed.preference, value)])
-        if isinstance(asked, bool):
-            is_met = asked
-        else:
-            _asking().begin(writer.lines)
-            _asking().add([asked])
-            is_met = _asking().is_satisfiable()
-        found |= {value} if is_met else set()
-    return frozenset(found)
+    asked = {
+        value: conjunction([passed.accepts, equal(passed.preference, value)])
+        for value in named_preferences(mine, inward)
+    }
+    open_ones = [value for value, formula in asked.items() if not isinstance(formula, bool)]
+    solver = smt.shared("preferences")
+    solver.begin(writer.lines)
+    met = dict(zip(open_ones, solver.each_satisfiable([asked[value] for value in open_ones])))
+    return frozenset(value for value, formula in asked.items() if met.get(value, formula))
 
 
 def lone_routers(net: Network, number: int, left: list[Way]) -> set[int]:

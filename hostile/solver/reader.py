@@ -7,19 +7,13 @@ import functools
 from hostile.judge.problem import Network
 from hostile.judge.questions import Question, Verdict
 from hostile.judge.rests import Down
-from hostile.solver.smt import Solver
+from hostile.solver import smt
 from hostile.solver.solving import Problem, Solution
-
-
-@functools.cache
-def _solver() -> Solver:
-    """The process that all problems share."""
-    return Solver()
 
 
 @functools.lru_cache(64)
 def _solved(net: Network, number: int, down: Down) -> tuple[Problem, list[Solution], bool]:
-    one = Problem(_solver(), net, number, down)
+    one = Problem(smt.shared("labels"), net, number, down)
     found = one.solutions()
     return one, found, one.ties_matter(found)
 
@@ -45,6 +39,11 @@ def _line(net: Network, one: Solution, place: int) -> str:
 def verdict(net: Network, number: int, question: Question, down: Down) -> Verdict:
     """The answer to a question about a class without something."""
     one, found, ties = _solved(net, number, down)
-    if not found:
-        return Verdict("none", ties)
-    return Verdict("yes" if all(one.is_true(each, question) for each in found) else "no", ties)
+    if not all(one.is_true(each, question) for each in found):
+        return Verdict("no", False)
+    return Verdict("yes" if found else "none", ties)
+
+
+def ties_matter(net: Network, number: int, down: Down) -> bool:
+    """Whether routers may rest otherwise than the solutions say."""
+    return _solved(net, number, down)[2]

@@ -2,6 +2,8 @@
 
 from __future__ import annotations
 
+import functools
+import os
 import re
 import shutil
 import subprocess
@@ -11,6 +13,22 @@ from hostile.solver.formulas import Formula, text_of
 
 PROGRAM = "z3"
 VALUE = re.compile(r"\((\w+) (true|false|\d+|\(- \d+\))\)")
+
+
+def _is_sat(answer: str) -> bool:
+    if answer not in ("sat", "unsat"):
+        raise ValueError(f"z3 answers {answer}")
+    return answer == "sat"
+
+
+@functools.cache
+def _solver_of(_process: int, _use: str) -> Solver:
+    return Solver()
+
+
+def shared(use: str) -> Solver:
+    """The process of Z3 that this process has for a use."""
+    return _solver_of(os.getpid(), use)
 
 
 class NoSolver(Exception):
@@ -45,19 +63,24 @@ class Solver:
 
     def is_satisfiable(self) -> bool:
         """Whether all formulas can hold."""
-        answer = self._ask("(check-sat)")
-        if answer not in ("sat", "unsat"):
-            raise ValueError(f"z3 answers {answer}")
-        return answer == "sat"
+        return _is_sat(self._ask("(check-sat)"))
 
-    def values(self, names: list[str]) -> dict[str, bool | int]:
-        """The values of variables in the model that was found."""
-        if not names:
-            return {}
-        answer = self._ask(f"(get-value ({' '.join(names)}))")
+    def each_satisfiable(self, formulas: list[Formula]) -> list[bool]:
+        """Of each of some formulas, whether it can hold beside those that were added. All are asked at once."""
+        if not formulas:
+            return []
+        told = self._ask("".join(f"(push)(assert {text_of(one)})(check-sat)(pop)" for one in formulas))
+        return [_is_sat(word) for word in told.split()]
+
+    def model(self, names: list[str]) -> dict[str, bool | int] | None:
+        """Values of variables with which all formulas hold, or None where they cannot."""
+        asked = f"(get-value ({' '.join(names)}))" if names else ""
+        word, _, answer = self._ask(f"(check-sat){asked}").partition("\n")
+        if not _is_sat(word):
+            return None
         found: dict[str, bool | int] = {}
-        for name, word in VALUE.findall(answer):
-            found[name] = word == "true" if word in ("true", "false") else int(word.strip("()").replace(" ", ""))
+        for name, value in VALUE.findall(answer):
+            found[name] = value == "true" if value in ("true", "false") else int(value.strip("()").replace(" ", ""))
         return found
 
     def _send(self, lines: Iterable[str]) -> None:

@@ -53,18 +53,18 @@ class Problem:
 
     def solutions(self) -> list[Solution]:
         """All stable solutions, each once."""
+        parts = [part for label in self.encoding.labels for part in _parts(label)]
+        parts += [formula for row in self.forward for formula in row.values()]
+        names = sorted({part for part in parts if isinstance(part, str)})
         self._begin(self.encoding.stable)
         found: list[Solution] = []
-        while self.solver.is_satisfiable():
-            found.append(self._read())
+        while (values := self.solver.model(names)) is not None:
+            found.append(self._solution(values))
             self.solver.add([keys_differ(self.encoding, found[-1].keys)])
         return found
 
-    def _read(self) -> Solution:
-        """The solution that the solver has found."""
-        parts = [part for label in self.encoding.labels for part in _parts(label)]
-        parts += [formula for row in self.forward for formula in row.values()]
-        values = self.solver.values(sorted({part for part in parts if isinstance(part, str)}))
+    def _solution(self, values: Values) -> Solution:
+        """The solution that a model says."""
         keys = tuple(self._key(values, label) for label in self.encoding.labels)
         ahead = [frozenset(at for at, formula in row.items() if _value(values, formula)) for row in self.forward]
         return Solution(keys, tuple(ahead))

@@ -61,6 +61,19 @@ def test_the_same_rows_give_the_same_plot(tmp_path):
     assert (tmp_path / "one.svg").read_bytes() == (tmp_path / "two.svg").read_bytes()
 
 
+def test_what_the_solver_took_is_taken_from_a_known_row(monkeypatch):
+    small = measuring.Compressed(measuring.Size(1, 16, 16, 9, 8), "small", 0.02)
+    monkeypatch.setattr(measuring, "compressed", lambda *_: small)
+    monkeypatch.setattr(measuring, "by_program", lambda *_: ("yes", 0.25))
+    monkeypatch.setattr(measuring, "by_solver", lambda text, _: ("yes", 40.0))
+    ring = next(family for family in networks.FAMILIES if family.name == "ring")
+    known = measuring.Row("ring", 16, 16, 16, 9, 8, "yes", 0.5, INF, 0.75, 0.5, 0.5, 3.0, None, 4.0)
+    row = measuring.measured("bonsai", "ask", ring, 16, None, known)
+    assert (row.solver, row.solver_after, row.ask, row.compress, row.frr) == (40.0, 0.75, 0.25, 0.02, 3.0)
+    with pytest.raises(measuring.Disagreement):
+        measuring.measured("bonsai", "ask", ring, 16, None, measuring.Row(**{**vars(known), "answer": "no"}))
+
+
 def test_frr_is_not_started_where_it_took_a_minute_or_the_lab_is_too_large():
     assert measuring.is_for_frr(20, None) and measuring.is_for_frr(measuring.MOST_ON_FRR, 60.0)
     assert not measuring.is_for_frr(20, 60.5) and not measuring.is_for_frr(20, INF)

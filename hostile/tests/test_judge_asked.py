@@ -173,26 +173,83 @@ def test_a_loss_is_what_the_text_says_in_which_the_session_is_shut_or_the_interf
 
 
 class Echo:
-    """A program that answers by the text and the words alone."""
+    """A program that answers a file of questions by each line's words and the text alone."""
 
     def __init__(self, told):
         self.told = told
 
     def ask(self, *words, texts):
         """An answer."""
-        return Answer(0, self.told("shutdown" in texts["F"].decode() or "without" in words).encode(), b"")
+        is_shut = "shutdown" in texts["F"].decode()
+        lines = enumerate(texts["S"].decode().splitlines(), 1)
+        told = [f"question {number}\n{self.told(is_shut or 'without' in line, line.split())}" for number, line in lines]
+        return Answer(0, "".join(told).encode(), b"")
+
+
+def a_loss():
+    """A text, and a loss of it with several questions."""
+    text = disputes.text(random.Random(2)).encode()
+    net = answers.read(text)
+    losses = (asked_shut.loss_of(random.Random(seed), text, net) for seed in range(99))
+    loss = next(
+        one
+        for one in losses
+        if len(one.questions) > 2 and not {"forwards"} & {one.questions[0][3], one.questions[-1][3]}
+    )
+    return text, loss
 
 
 def test_a_loss_is_asked_in_two_ways():
-    text = "".join(f"{line}\n" for line in disputes.text(random.Random(2)).splitlines()).encode()
-    net = answers.read(text)
-    same = Echo(lambda is_lost: f"class 1 solutions {int(is_lost)}\n")
-    assert asked_shut.fault(same, random.Random(1), text, net) is None
-    other = type(
-        "Other", (Echo,), {"ask": lambda self, *words, texts: Answer(0, str("without" in words).encode(), b"")}
+    text, loss = a_loss()
+    assert loss.shut.count(b"shutdown") >= 1 and b"without" not in loss.after
+    assert [line.split() for line in loss.without.decode().splitlines()] == loss.questions
+    same = Echo(lambda is_lost, words: f"class 1 {'no' if is_lost else 'yes'}\n")
+    assert asked_shut.fault(loss, *asked_shut.asked(same, text, loss)) is None
+    other = Echo(lambda _, words: f"class 1 {'yes' if 'without' in words else 'no'}\n")
+    words, why = asked_shut.fault(loss, *asked_shut.asked(other, text, loss))
+    assert words == loss.questions[0] and "as of the text that is shut" in why
+
+
+def test_each_question_of_a_loss_is_compared():
+    text, loss = a_loss()
+    last = loss.questions[-1][3:]
+    other = Echo(
+        lambda _, words: "class 1 yes\n" if words[-len(last) :] != last or "without" in words else "class 1 no\n"
     )
-    words, why = asked_shut.fault(other(None), random.Random(1), text, net)
-    assert words[1] == "without" and "as of the text that is shut" in why
+    words, _ = asked_shut.fault(loss, *asked_shut.asked(other, text, loss))
+    assert words[3:] == last
+    one, two = asked_shut.asked(other, text, loss)
+    assert asked_shut.fault(loss, one, Answer(8, one.out, b""))[1].startswith("status 8")
+    assert asked_shut.fault(loss, one, Answer(1, b"", b"refused: x\n"))
+
+
+def test_solutions_may_come_in_any_order():
+    words = ["1", "without", "r0:r1", "forwards"]
+    told = "solution 1\nr0 here\nr1 to r0\nsolution 2\nr0 here\nr1 none\n"
+    turned = "solution 1\nr0 here\nr1 none\nsolution 2\nr0 here\nr1 to r0\n"
+    assert asked_shut.essence(words, told) == asked_shut.essence(words, turned)
+    assert asked_shut.essence(words, told) != asked_shut.essence(words, told.replace("none", "here"))
+
+
+def test_which_tie_was_met_is_free():
+    words = ["1", "without", "r0:r1", "route", "*"]
+    assert asked_shut.essence(words, "class 1 yes tied r1 path\n") == asked_shut.essence(words, "class 1 yes\n")
+    assert asked_shut.essence(words, "class 1 no\n") != asked_shut.essence(words, "class 1 yes\n")
+
+
+def test_a_run_counts_texts_by_what_they_have():
+    assert [*asked_run.kinds_of(network("disagree"))] == ["bgp", "lone", "several"]
+    assert [*asked_run.kinds_of(network("bad gadget", True, False))] == ["bgp", "lone", "none"]
+    assert [*asked_run.kinds_of(answers.read(b"x\n"))] == ["refused"]
+    kinds = {kind for seed in range(60) for kind in asked_run.kinds_of(answers.read(text_of(random.Random(seed))))}
+    assert kinds >= {"bgp", "ospf", "lone", "several", "none"}
+
+
+def test_a_question_of_a_file_is_a_command():
+    found = asked_run.Found()
+    for words in asked_run._questions_of(FILE):
+        found.note(words)
+    assert found.asked == 3 and found.commands == {"count": 1, "route": 1, "hops": 1}
 
 
 def test_a_run_is_left_out_by_name_without_a_program(monkeypatch, capsys):

@@ -7,9 +7,10 @@ import re
 
 import pytest
 
-from hostile.judge import answers, groups, labels, problem
+from hostile.judge import answers, groups, labels, problem, questions
 from hostile.judge.network import Refused
-from hostile.makers import certificates, faults, forms, makers, meant, networks, policies, solutions
+from hostile.judge.rests import Down
+from hostile.makers import certificates, faults, forms, internets, makers, meant, networks, policies, solutions
 from hostile.makers import labels as label_maker
 from hostile.tests.texts import pair
 
@@ -194,3 +195,26 @@ def test_broken_certificates() -> None:
         lambda data: Judge(one).read(data),
     )
     assert {"read", "BadForm", "UnknownRouter", "WrongGroups", "NoEnd", "NoEdge"} <= set(kinds), kinds
+
+
+def test_internets_have_lone_routers_and_routes_everywhere() -> None:
+    """A valley-free internet has one solution, in which the origin is reached; where a session leaks there may be more."""
+    lone = single = 0
+    for seed in SEEDS:
+        net = answers.read(internets.text(random.Random(seed)).encode())
+        assert not isinstance(net, answers.Expected)
+        whole, found = questions.solutions(net, 0, Down())
+        lone += bool(whole.lone)
+        single += len(found) == 1
+        assert all(label is not None for given in found for label in given)
+    assert lone > len(SEEDS) / 2 and single > len(SEEDS) * 0.9
+
+
+def test_tied_networks_are_tied() -> None:
+    """In half of them real routers may rest otherwise than the solutions say."""
+    tied = 0
+    for seed in SEEDS:
+        net = answers.read(internets.tied(random.Random(seed)).encode())
+        assert not isinstance(net, answers.Expected)
+        tied += questions.ties_matter(net, 0, Down())
+    assert tied > len(SEEDS) / 3

@@ -1,6 +1,7 @@
 """The solver as a reader: formulas, gadgets that are known, and agreement with exhaustive search."""
 
 import itertools
+import json
 import random
 import subprocess
 
@@ -8,7 +9,6 @@ import pytest
 
 from hostile.asked_run import text_of
 from hostile.judge import answers
-from hostile.judge.questions import Question
 from hostile.judge.rests import Down, TooLarge
 from hostile.makers import disputes
 from hostile.solver import command, encoding, formulas, reader, smt
@@ -42,9 +42,10 @@ def test_values_of_a_model_are_read(solver):
     solver.begin(["(declare-const a Bool)", "(declare-const n Int)"])
     solver.add(["a", formulas.equal("n", -7)])
     assert solver.is_satisfiable()
-    assert solver.values(["a", "n"]) == {"a": True, "n": -7}
+    assert solver.model(["a", "n"]) == {"a": True, "n": -7} and solver.model([]) == {}
+    assert solver.each_satisfiable(["a", "(not a)", "(= n (- 7))"]) == [True, False, True]
     solver.add(["(not a)"])
-    assert not solver.is_satisfiable()
+    assert not solver.is_satisfiable() and solver.model(["a"]) is None and solver.model([]) is None
 
 
 def test_a_formula_that_is_used_twice_has_one_name():
@@ -78,7 +79,7 @@ def test_ties_matter_where_only_communities_order_two_routes():
     nets = [
         net for net in map(lambda text: answers.read(text.encode()), texts) if not isinstance(net, answers.Expected)
     ]
-    found = {reader.verdict(net, 0, Question("route", ()), NOTHING).ties_matter for net in nets if net.classes}
+    found = {reader.ties_matter(net, 0, NOTHING) for net in nets if net.classes}
     assert found == {True, False}
 
 
@@ -127,3 +128,12 @@ def test_the_comparison_is_left_out_by_name_without_the_package(monkeypatch, cap
     monkeypatch.setattr(smt.shutil, "which", lambda _name: None)
     assert command.main(["--seconds", "1"]) == 0
     assert "the package z3" in capsys.readouterr().out
+
+
+def test_jobs_share_the_texts_and_one_class_of_each_is_enough(capsys, tmp_path, monkeypatch):
+    monkeypatch.setattr(command, "KEPT", tmp_path / "solve.json")
+    assert (
+        command.main(["--seconds", "60", "--texts", "3", "--jobs", "2", "--one", "--seed", "1", "--record", "a"]) == 0
+    )
+    told = json.loads(capsys.readouterr().out)
+    assert told["texts"] == told["classes"] >= 3 and told == json.loads((tmp_path / "solve.json").read_text())["a"]

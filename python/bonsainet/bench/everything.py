@@ -5,11 +5,13 @@ import argparse
 import importlib.util
 import os
 import shutil
+import subprocess
 import sys
 import time
 from pathlib import Path
 from types import ModuleType
 
+from bonsainet.ask.program import TOP
 from bonsainet.bench import paper, plot, profile, turns
 from bonsainet.bench.states import add_named, names_of, program_at
 from bonsainet.cli.command_line import Refused, parser
@@ -29,6 +31,12 @@ def words() -> argparse.ArgumentParser:
     states = "the state before, and the state after: programs that ./build proved, or others with a file PROGRAM.made: how it was made, and its SHA-256 (a line each)"
     made.add_argument("programs", nargs=2, type=Path, metavar="PROGRAM", help=states)
     add_named(made)
+    made.add_argument(
+        "--ask",
+        type=Path,
+        metavar="PROGRAM",
+        help="the program bonsai-ask: measures `bench/asked` too, with the state after, and as root FRR",
+    )
     made.add_argument("--runs", type=int, default=5, help="turns of `bench/turns` (default: %(default)s)")
     made.add_argument("--anew", action="store_true", help="measure again what is kept of these programs")
     return made
@@ -50,6 +58,17 @@ def work(arguments: argparse.Namespace) -> None:
             f"all: {tool.__name__.rpartition('.')[2]} {' '.join(asked)}: {time.monotonic() - started:.0f} s",
             file=sys.stderr,
         )
+    if arguments.ask:
+        figure(arguments.programs[1], arguments.ask)
+
+
+def figure(bonsai: Path, ask: Path) -> None:
+    """Measures one question over large networks and small ones, and writes its table and its plot. Refused where it fails."""
+    programs = ["--bonsai", str(program_at(bonsai)), "--ask", str(program_at(ask))]
+    calls = [[*programs, "--keep"], [*programs, "--frr"], ["--draw"]]
+    for words in [call for call in calls if "--frr" not in call or os.geteuid() == 0]:
+        if subprocess.run([TOP / "bench" / "asked", *words], check=False).returncode:
+            raise Refused(f"bench/asked {' '.join(words)} failed")
 
 
 def packages() -> list[str]:

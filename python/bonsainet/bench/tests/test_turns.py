@@ -1,5 +1,6 @@
 """Programs are measured in turn over networks of each shape, and rows are kept."""
 import dataclasses
+import subprocess
 from pathlib import Path
 from typing import Any
 
@@ -295,3 +296,25 @@ def test_instructions_are_counted_alone(programs) -> None:
     for more in ("--memory", "--keep"):
         with pytest.raises(Refused, match="--instructions"):
             turns.work(turns.words().parse_args([*map(str, programs), "--instructions", more]))
+
+
+def test_the_figure_is_measured_where_the_program_is_given(tmp_path: Path, monkeypatch: pytest.MonkeyPatch) -> None:
+    """FRR by root alone; a step that fails ends all."""
+    program = tmp_path / "program"
+    program.write_text("#!/bin/sh\n")
+    program.chmod(0o755)
+    called: list[list[str]] = []
+
+    def run(words: list[str], check: bool) -> subprocess.CompletedProcess[str]:
+        called.append([str(word) for word in words[1:]])
+        return subprocess.CompletedProcess(words, 1 if "--draw" in words and len(called) < 3 else 0)
+
+    monkeypatch.setattr(everything.subprocess, "run", run)
+    monkeypatch.setattr(everything.os, "geteuid", lambda: 0)
+    everything.figure(program, program)
+    both = ["--bonsai", str(program), "--ask", str(program)]
+    assert called == [[*both, "--keep"], [*both, "--frr"], ["--draw"]]
+    called.clear()
+    monkeypatch.setattr(everything.os, "geteuid", lambda: 1000)
+    with pytest.raises(Refused, match="bench/asked --draw failed"):
+        everything.figure(program, program)
