@@ -43,7 +43,7 @@ def standard_input(most: int) -> bytes:
 def takes(number: int, data: bytes) -> bool:
     """Whether standard output or error, by its number, takes all of some bytes, which are written without a buffer."""
     if number in held:
-        return False
+        return not data
     try:
         while data:
             data = data[os.write(number, data) :]

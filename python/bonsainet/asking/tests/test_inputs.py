@@ -102,6 +102,7 @@ ENDS: list[tuple[list[str], str]] = [
     (["bad", "*", "nonsense"], "2>/dev/full"),
     (["ok", "*", "isolated", "*"], ">/dev/full"),
     (["ok", "*", "isolated", "*"], ">&-"),
+    (["bad", "1", "count"], ">&-"),
     (["bad", "questions", "/nope"], ""),
     (["ok", "questions", "/nope"], ""),
     (["/", "*", "count"], ""),
@@ -128,6 +129,17 @@ def test_a_large_file_with_a_name_like_an_option(large: Path) -> None:
     assert wanted == (0, b"".join(b"class %d yes\n" % number for number in range(1, 81)), b"")
     assert end("-x.cfg", "*", "hops", "0", "*", cwd=large) == wanted
     assert end("--jobs=3", "--", "--jobs", "*", "hops", "0", "*", cwd=large) == wanted
+
+
+@pytest.mark.parametrize("options", [("--json",), ()])
+def test_no_module_of_the_folder_in_which_one_stands_is_run(
+    options: tuple[str, ...], large: Path, tmp_path: Path
+) -> None:
+    """Neither with an option nor where the classes of a large text are shared out."""
+    for name in ("argparse", "json", "re", "bonsainet"):
+        (tmp_path / f"{name}.py").write_text("raise SystemExit('a foreign module')\n")
+    words = [*options, large / "ok", "*", "hops", "0", "*"]
+    assert end(*words, cwd=tmp_path) == end(*words, cwd=large)
 
 
 def test_an_answer_where_standard_error_takes_nothing() -> None:
