@@ -181,7 +181,7 @@ FAULTS = [
     _fault(
         "tools-source",
         "cli/command_line.py",
-        'if source != "-" and os.path.exists(name) and os.path.samefile(source, name):',
+        "if os.path.samefile(source, name):",
         "if False:",
         "the file that is read is written over",
         "cli/tests/test_outputs.py",

@@ -118,7 +118,7 @@ def answers(asked: Asked, call: Call, given: argparse.Namespace) -> int:
             say(json.dumps(made, indent=1).encode() + b"\n")
         if given.junit:
             assert call.asked_in is not None
-            write_output(given.junit, junit(call.asked_in, questions, reports), call.asked_in)
+            write_output(given.junit, junit(call.asked_in, questions, reports), call.file, call.asked_in)
     return answer.status
 
 

@@ -12,6 +12,7 @@ import contextlib
 import errno
 import io
 import os
+import stat
 import subprocess
 import sys
 from collections.abc import Callable, Iterable, Iterator
@@ -70,8 +71,11 @@ def parser(name: str, purpose: str, statuses: tuple[tuple[str, str], ...] = (), 
 def read_input(name: str, most: int = LONGEST_TEXT + 1) -> bytes:
     """The bytes of a file, or of standard input where the name is `-`: as many as the program needs to refuse the text
     as too long, if there are more."""
-    if name == "-":
-        return streams.standard_input(most)
+    return streams.standard_input(most) if name == "-" else read_file(name, most)
+
+
+def read_file(name: str, most: int) -> bytes:
+    """The first bytes of a file."""
     try:
         with open(name, "rb") as file:
             return file.read(most)
@@ -86,26 +90,40 @@ def name_of(file: str) -> str:
     return "standard input" if file == "-" else shown(file)
 
 
-def write_output(name: str, made: bytes, source: str = "-") -> None:
-    """Writes a file whole or not at all; `-` is standard output. Refused where the file is the one that was read."""
+def write_output(name: str, made: bytes, *sources: str) -> None:
+    """Writes a file whole or not at all; `-` is standard output. Refused where the file is a source, or is in one, which was
+    read."""
     if name == "-":
         sys.stdout.buffer.write(made)
         sys.stdout.buffer.flush()
         return
-    if source != "-" and os.path.exists(name) and os.path.samefile(source, name):
-        raise Refused(f"{name}: is the file that is read")
+    refuse_source(name, *sources)
     with kept(name, made):
         pass
 
 
+def refuse_source(name: str, *sources: str) -> None:
+    """Refuses to write over a file that was read: one of these, or one in a folder of them. `-` is no file."""
+    if not os.path.exists(name):
+        return
+    for source in sources:
+        if source != "-" and os.path.exists(source):
+            if os.path.samefile(source, name):
+                raise Refused(f"{name}: is the file that is read")
+            if os.path.isdir(source) and os.path.realpath(name).startswith(os.path.join(os.path.realpath(source), "")):
+                raise Refused(f"{name}: is in the folder that is read")
+
+
 @contextlib.contextmanager
 def kept(name: str, made: bytes) -> Iterator[None]:
-    """Writes a file that is in its place at the end of the context, and nowhere where the context fails. What is no
-    file is written at once."""
+    """Writes a file that is in its place at the end of the context, and nowhere where the context fails. One that is there
+    gives it its mode. What is no file is written at once."""
     whole = os.path.realpath(name)
     part = whole if os.path.exists(whole) and not os.path.isfile(whole) else beside(whole)
     try:
         with writing(name), open(part, "xb" if part != whole else "wb") as file:
+            if part != whole and os.path.exists(whole):
+                os.fchmod(file.fileno(), stat.S_IMODE(os.stat(whole).st_mode))
             file.write(made)
         yield
         if part != whole:
@@ -132,7 +150,7 @@ def writing(name: str | os.PathLike[str]) -> Iterator[None]:
 
 def not_written(name: str | os.PathLike[str], fault: OSError) -> OSError:
     """The fault of a file that was not written, which ends a tool with status 4."""
-    return OSError(fault.errno or errno.EIO, f"{os.fspath(name)}: {fault.strerror}")
+    return OSError(fault.errno or errno.EIO, f"{os.fspath(name)}: {fault.strerror or fault}")
 
 
 def shown(text: str) -> str:

@@ -75,7 +75,9 @@ def main(argv: list[str] | None = None) -> int:
     if given.html:
         from bonsainet.diffing.page import page
 
-        write_output(given.html, page(old, new, found, reasons, program(ASK).identity).encode())
+        made_page = page(old, new, found, reasons, program(ASK).identity).encode()
+        read = [place.path for place in (*sides, first, second) if place and place.revision is None]
+        write_output(given.html, made_page, *read)
     if given.json:
         print(json.dumps(document(found, reasons, program(ASK).identity), indent=1))
     else:

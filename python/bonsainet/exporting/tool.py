@@ -11,7 +11,17 @@ from pathlib import Path
 
 from bonsainet.configs.change import Change
 from bonsainet.ask.accepted import accepted_text
-from bonsainet.cli.command_line import Refused, beside, kept, name_of, parser, read_input, writing
+from bonsainet.cli.command_line import (
+    Refused,
+    beside,
+    kept,
+    name_of,
+    parser,
+    printable,
+    read_input,
+    refuse_source,
+    writing,
+)
 from bonsainet.exporting import batfish, frr, ios
 from bonsainet.exporting.writer import Exported, NotExported
 from bonsainet.configs.network import read_network
@@ -54,6 +64,8 @@ def main(argv: list[str] | None = None) -> int:
     report = json_text(exported, program.identity) if words.json else report_text(exported, program.identity)
     if words.report and Path(words.report).resolve().is_relative_to(folder.resolve()):
         raise Refused(f"{words.report}: the report goes beside {folder}, not into it")
+    if words.report:
+        refuse_source(words.report, words.text)
     with kept(words.report, report.encode()) if words.report else contextlib.nullcontext():
         write_folder(folder, exported.files)
     if not words.report:

@@ -72,7 +72,7 @@ def work(arguments: argparse.Namespace) -> None:
     programs = identities(BONSAI, *asked_of)
     late = ties.met.told_of_late if ties and ties.met.late else None
     page = html(everything(text, rows.all, told, programs, has_ties, late))
-    write_output(arguments.output, page.encode(), arguments.file)
+    write_output(arguments.output, page.encode(), arguments.file, arguments.import_report or "-")
 
 
 def html(shown: dict[str, Any]) -> str:

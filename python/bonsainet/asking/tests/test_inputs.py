@@ -142,6 +142,16 @@ def test_no_module_of_the_folder_in_which_one_stands_is_run(
     assert end(*words, cwd=tmp_path) == end(*words, cwd=large)
 
 
+def test_a_report_is_not_written_over_the_text(tmp_path: Path) -> None:
+    (tmp_path / "net.cfg").write_bytes(DISAGREE.read_bytes())
+    (tmp_path / "questions").write_bytes(LIST)
+    for name in ("net.cfg", "questions"):
+        before = (tmp_path / name).read_bytes()
+        ran = end("--junit", name, "net.cfg", "questions", "questions", cwd=tmp_path)
+        assert ran[0] == 1 and ran[2] == f"bonsai-ask: {name}: is the file that is read\n".encode()
+        assert (tmp_path / name).read_bytes() == before
+
+
 def test_an_answer_where_standard_error_takes_nothing() -> None:
     ran = end("--jobs", "2", DISAGREE, "1", "route", "*", cwd=TOP, closing="2>/dev/full")
     assert ran[:2] == (0, b"class 1 yes\n")

@@ -8,7 +8,7 @@ import pytest
 
 from bonsainet.ask.program import TOP
 from bonsainet.cli.command_line import kept, write_output
-from bonsainet.tests.asking import needs, place_of, tool
+from bonsainet.tests.asking import TWO_ALIKE, needs, place_of, tool
 
 
 def test_a_file_is_written_beside_and_then_moved(tmp_path: Path) -> None:
@@ -78,6 +78,46 @@ def test_the_file_that_is_read_is_not_written_over(name: str, way: str, tmp_path
     ran = tool(name, *words)
     assert ran.returncode == 1 and b"is the file that is read" in ran.stderr
     assert place.read_bytes() == place_of("two-routers.cfg").read_bytes()
+
+
+IS_READ = "is the file that is read"
+
+
+@pytest.mark.parametrize(
+    "words, told",
+    [
+        (["bonsai-page", "net.cfg", "--import-report", "report", "-o", "report"], IS_READ),
+        (["bonsai-export", "--to", "frr", "net.cfg", "made", "--report", "net.cfg"], IS_READ),
+        (["bonsai-diff", "net.cfg", "folder", "--html", "net.cfg"], IS_READ),
+        (["bonsai-diff", "net.cfg", "folder", "--html", "folder/configs/a.cfg"], "is in the folder that is read"),
+        (["bonsai-diff", "net.cfg", "folder", "--decisions", "report", "--html", "report"], IS_READ),
+    ],
+    ids=["page", "export", "diff", "diff-folder", "diff-decisions"],
+)
+def test_nothing_that_is_read_is_written_over(words: list[str], told: str, tmp_path: Path) -> None:
+    """Not a report, decisions, or a file of a folder either."""
+    needs(words[0])
+    (tmp_path / "folder/configs").mkdir(parents=True)
+    for place in ("net.cfg", "folder/configs/a.cfg"):
+        (tmp_path / place).write_text(TWO_ALIKE if place == "net.cfg" else TWO_ALIKE.partition("hostname b")[0])
+    (tmp_path / "report").write_text("" if words[0] == "bonsai-diff" else '{"lines": []}')
+    before = content(tmp_path)
+    ran = tool(words[0], *words[1:], cwd=tmp_path)
+    assert ran.returncode == 1 and f"{words[-1]}: {told}" in ran.stderr.decode() and content(tmp_path) == before
+
+
+def content(folder: Path) -> dict[Path, bytes]:
+    """The bytes of each file below a folder."""
+    return {path: path.read_bytes() for path in folder.rglob("*") if path.is_file()}
+
+
+@pytest.mark.parametrize("mode", [0o600, 0o640, 0o666])
+def test_a_file_keeps_its_mode(mode: int, tmp_path: Path) -> None:
+    place = tmp_path / "made"
+    place.write_bytes(b"before")
+    place.chmod(mode)
+    write_output(str(place), b"after")
+    assert place.read_bytes() == b"after" and place.stat().st_mode & 0o777 == mode
 
 
 def test_a_report_is_not_written_over_what_was_read(tmp_path: Path) -> None:
