@@ -19,7 +19,7 @@ from bonsainet.every.plan import ANSWERS, Plan, put
 
 ENDS = {"compress": "cfg", "canon": "cfg", "json": "json"}
 HEAD = "class\tbytes\tsha256\n"
-# (what jobs leave that were killed: frames of a range, and answers on their way through `--then`)
+# (what jobs leave that were killed: frames of a range, of which nothing says whether they are whole, and answers on their way through `--then`)
 LEFT = ("class-*.part", "class-*.part.*", "class-*.small", "class-*.made", "class-*.made.err")
 
 
@@ -102,14 +102,13 @@ def tidy(folder: Path, *patterns: str) -> None:
 def _kept(answers: Answers) -> set[int]:
     """The classes whose answer is there as it was when it was whole."""
     place = answers.folder / ANSWERS
-    lines = place.read_text("ascii", "replace").splitlines() if place.exists() else []
+    lines = place.read_text("ascii", "replace").splitlines() if place.is_file() else []
     # (a line that was cut says nothing, and of several the last counts)
-    split = (line.partition("\t") for line in lines)
-    told = {int(number): rest for number, _, rest in split if number.isdigit() and rest.count("\t") == 1}
+    told = {number: rest for number, _, rest in (line.partition("\t") for line in lines)}
     found = set()
-    for number, rest in told.items():
-        answer = answers.place(number)
-        if number <= answers.made.classes and answer.is_file():
+    for number in range(1, answers.made.classes + 1):
+        answer, rest = answers.place(number), told.get(str(number))
+        if rest and answer.is_file():
             if rest == f"{answer.stat().st_size}\t{sum_of(answer)}":
                 found.add(number)
     return found

@@ -113,12 +113,7 @@ def run(folder: Path, made: Plan, executable: Path, where: Where, lock: Lock) ->
     put(folder / THEN, made.then.encode())
     put(folder / JOB, SCRIPT.format(program=PROGRAM, text=TEXT, command=made.command, then=THEN).encode())
     answers = Answers(folder, made)
-    for part in folder.glob("class-*-*.part"):
-        first, last = map(int, part.stem.split("-")[1:])
-        _take(answers, part, first, last)
     tidy(folder)
-    # (what failed before is asked again)
-    answers.failed.clear()
     try:
         with progress("classes", made.classes) as advance:
             advance(len(answers.done))

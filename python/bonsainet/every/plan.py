@@ -73,11 +73,11 @@ def is_part(path: Path) -> bool:
 
 
 def put(place: Path, data: bytes, mode: int = 0o644) -> None:
-    """Writes a file whole or not at all."""
+    """Writes a file whole or not at all. Its mode leaves out what the umask does."""
     part = Path(beside(place))
     try:
-        part.write_bytes(data)
-        part.chmod(mode)
+        with open(part, "xb", opener=lambda name, flags: os.open(name, flags, mode)) as file:
+            file.write(data)
         os.replace(part, place)
     except OSError as fault:
         raise not_written(place, fault) from None
@@ -87,7 +87,7 @@ def put(place: Path, data: bytes, mode: int = 0o644) -> None:
 
 def _must_be_of(folder: Path, made: Plan) -> None:
     try:
-        kept = json.loads((folder / PLAN).read_text())
+        kept = json.loads((folder / PLAN).read_text()) if (folder / PLAN).is_file() else None
     except (OSError, ValueError):
         kept = None
     if not isinstance(kept, dict):

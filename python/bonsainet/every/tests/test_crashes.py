@@ -234,3 +234,41 @@ def test_what_stands_behind_then_is_left_as_it_is(tmp_path: Path) -> None:
     ran = tool("bonsai-every", place_of("fabric.cfg"), tmp_path / "all", "--jobs", "1", "--then", shell, env=env)
     assert ran.returncode == 0
     assert (tmp_path / "all/class-1.out").read_text() == '{} | {#} | {%} | {.} | {= 1 + 1 =} | 1\n$x "y"\nx'
+
+
+def test_what_a_crash_of_the_machine_can_leave(tmp_path: Path) -> None:
+    """Lines of the log that say nothing, and frames of a range of which nobody knows whether they are whole."""
+    folder, place = tmp_path / "all", place_of("fabric.cfg")
+    assert tool("bonsai-every", place, folder, "--jobs", "1").returncode == 0
+    before = (folder / "class-1.cfg").read_bytes()
+    (folder / "class-1.cfg").rename(folder / "class-0.cfg")
+    with open(folder / "answers.tsv", "ab") as file:
+        file.write(b"%s\t1\tx\n\xff\x00\n0\t%d\t%s\n" % (b"9" * 5000, len(before), sha256(before)))
+    for name in ("class-1-2.part", "class-1-2-3.part", "class-a-b.part"):
+        (folder / name).write_bytes(b"class 1 0 5\nwrong")
+    ran = tool("bonsai-every", place, folder, "--jobs", "1", "--resume")
+    assert (ran.returncode, ran.stderr.splitlines()[-1]) == (0, b"bonsai-every: 2 of 2 answered")
+    assert (folder / "class-1.cfg").read_bytes() == before and not list(folder.glob("*.part"))
+
+
+def sha256(data: bytes) -> bytes:
+    """A checksum as the log has it."""
+    return hashlib.sha256(data).hexdigest().encode()
+
+
+@pytest.mark.parametrize(
+    "name, status", [("plan.json", 1), ("answers.tsv", 4), ("class-1.cfg", 0), ("class-1-2.part", 0)]
+)
+def test_a_pipe_in_the_place_of_a_file_is_not_waited_for(name: str, status: int, tmp_path: Path) -> None:
+    folder, place = tmp_path / "all", place_of("fabric.cfg")
+    assert tool("bonsai-every", place, folder, "--jobs", "1").returncode == 0
+    (folder / name).unlink(missing_ok=True)
+    os.mkfifo(folder / name)
+    ran = tool("bonsai-every", place, folder, "--jobs", "1", "--resume", timeout=LATEST)
+    assert ran.returncode == status and b"Traceback" not in ran.stderr
+
+
+def test_a_folder_of_files_for_its_user_alone(tmp_path: Path) -> None:
+    ran = tool("bonsai-every", place_of("fabric.cfg"), tmp_path / "all", "--jobs", "1", umask=0o077)
+    assert ran.returncode == 0
+    assert all(path.stat().st_mode & 0o077 == 0 for path in (tmp_path / "all").iterdir())
