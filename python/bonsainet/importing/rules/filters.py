@@ -65,7 +65,7 @@ def prefix_list_forms(folder: Folder, _options: Options) -> None:
         for stanza in router.stanzas:
             words = stanza.head.words
             if words in (["ip", "prefix-list", "sequence-number"], ["no", "ip", "prefix-list", "sequence-number"]):
-                folder.log.by(stanza.head, COUNTED)
+                folder.log.cut(stanza.lines, COUNTED)
                 continue
             if words[:2] == ["ip", "prefix-list"] and len(words) > 4:
                 if words[3] in ("permit", "deny"):
@@ -97,7 +97,7 @@ def community_lists(folder: Folder, _options: Options) -> None:
             if made is None:
                 kept.append(stanza)
                 continue
-            folder.log.by(stanza.head, EXPANDED)
+            folder.log.cut(stanza.lines, EXPANDED)
             kept += [Stanza(stanza.head.with_text(text)) for text in made]
         router.stanzas = kept
 

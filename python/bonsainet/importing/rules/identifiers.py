@@ -51,7 +51,7 @@ def of_ospf(folder: Folder, _options: Options) -> None:
                     f"{other.name} has this identifier too, and then the two are one router to all others",
                 )
         for stanza in common:
-            folder.log.by(stanza.head, IDENTIFIER)
+            folder.log.cut(stanza.lines, IDENTIFIER)
             router.stanzas = [found for found in router.stanzas if found is not stanza]
 
 

@@ -68,7 +68,7 @@ def system_mtu(folder: Folder, _options: Options) -> None:
         )
         given.sort(key=lambda stanza: "routing" not in stanza.head.words)
         for stanza in given:
-            folder.log.by(stanza.head, SYSTEM_MTU)
+            folder.log.cut(stanza.lines, SYSTEM_MTU)
             router.stanzas = [found for found in router.stanzas if found is not stanza]
         if given and _mtu_of(given[0]) != DEFAULT_MTU:
             for other in router.interfaces:

@@ -260,7 +260,7 @@ def _originate(
         made = Stanza(line.with_text(f"interface {name}"), [indented(line, f"ip address {address} {prefix.netmask}")])
         router.stanzas.insert(router.stanzas.index(process), made)
         if static:
-            folder.log.by(static.head, NULL)
+            folder.log.cut(static.lines, NULL)
             router.stanzas.remove(static)
 
 

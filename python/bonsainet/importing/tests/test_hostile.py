@@ -110,3 +110,14 @@ def test_a_router_without_lines_is_refused_by_its_file(tmp_path: Path, program: 
     folder = Folder([Source("a", [], file="a.cfg")], {})
     judge(folder, program, lambda *_: False)
     assert [(found.place.file, found.place.line) for found in folder.log.refusals] in ([], [("a.cfg", 0)])
+
+
+@pytest.mark.parametrize(
+    "head",
+    ["system mtu routing 1500", "no ip prefix-list sequence-number", "ip community-list expanded X permit _1:1_"],
+)
+def test_a_line_below_one_that_opens_nothing_is_told(head: str, tmp_path: Path, program: Program) -> None:
+    (tmp_path / "a.cfg").write_text(ROUTER.replace("router ospf", f"{head}\n no such line\nrouter ospf"))
+    report = import_folder(str(tmp_path), program)
+    told = {change.place.line: change.before for change in report.changes}
+    assert " no such line" in told.values() and not report.refused
