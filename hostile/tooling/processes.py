@@ -18,7 +18,8 @@ from bonsainet.nets.fat_tree import fat_tree_text
 from hostile.makers import networks
 
 SIGNALS = (signal.SIGTERM, signal.SIGHUP, signal.SIGINT, signal.SIGKILL)
-LATEST = 120
+# (seconds: many more than a slow machine takes)
+LATEST = 600
 # The words of each tool: TEXT is an accepted text, FOLDER a folder of configurations, MADE what is made.
 WRITERS = {
     "bonsai-page": "TEXT -o MADE",

@@ -85,7 +85,7 @@ def as_json(name: str, found: list[Doubt], programs: Mapping[str, Identity]) -> 
 
 def as_text(name: str, found: list[Doubt]) -> Iterator[str]:
     """The doubts for a person, sort by sort."""
-    yield f"{name}: {len(found)} {'doubt' if len(found) == 1 else 'doubts'}"
+    yield f"{printable(name)}: {len(found)} {'doubt' if len(found) == 1 else 'doubts'}"
     for sort, title in SORTS.items():
         those = [one for one in found if one.sort == sort]
         alike: dict[tuple[str, str], list[Doubt]] = {}

@@ -121,7 +121,7 @@ def _by_rule(title: str, changes: list[Change]) -> str:
     lines = [f"{title} ({len(changes)})"] if changes else []
     for rule, own in by_rule.items():
         lines.append(f"{rule}: {own[0].reason}")
-        lines += [f"  {change.place}: {told(change)}" for change in own]
+        lines += [printable(f"  {change.place}: {told(change)}") for change in own]
     return "".join(f"{line}\n" for line in lines)
 
 

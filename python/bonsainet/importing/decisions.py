@@ -32,6 +32,7 @@ PROTECTED = "protected"
 GUARDED = "guarded"
 DROPS = ("drop", "drop!")
 OWN_AS = "own-as"
+LONGEST_DECISIONS = 16_777_216
 VERBS = (*DROPS, "bandwidth", "cost", "undefined", OWN_AS)
 LARGEST = {"bandwidth": 4_294_967_295, "cost": 65_535}
 OPENING = {
@@ -102,6 +103,15 @@ class Decisions:
     def unused(self) -> list[Decision]:
         """The decisions that nothing matched."""
         return [found for found in self.all if not found.is_used]
+
+
+def decisions_in(name: str) -> Decisions:
+    """The decisions of a file, by its name. Refused at the first line that is none."""
+    with open(name, encoding="utf-8", errors="replace") as file:
+        text = file.read(LONGEST_DECISIONS + 1)
+    if len(text) > LONGEST_DECISIONS:
+        raise Refused(f"{name}: has more than {LONGEST_DECISIONS} characters")
+    return read_decisions(text, name)
 
 
 def read_decisions(text: str, name: str) -> Decisions:

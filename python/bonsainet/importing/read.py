@@ -14,7 +14,8 @@ import re
 from collections.abc import Sequence
 from pathlib import Path
 
-from bonsainet.cli.command_line import Refused, one_line
+from bonsainet.cli import streams
+from bonsainet.cli.command_line import Refused, one_line, read_file
 from bonsainet.importing.cleaning import cleaned
 from bonsainet.importing.daemons import without_stopped
 from bonsainet.importing.folder import Dialect, Folder, Source
@@ -59,6 +60,9 @@ FRR_OTHERS = (
     "nhrpd.conf",
 )
 PROTOCOL = {"fabric": "openfabric"}
+STANDARD_INPUT = Path("/dev/stdin")
+# (much more than any device has; what has no end has more)
+LONGEST_FILE = 67_108_864
 HOSTNAME = rule(
     "hostname", "a router without a host name has the name of its file or folder", "the names of backups, RANCID"
 )
@@ -163,7 +167,7 @@ def read_files(names: Sequence[str], skip: Sequence[str] = ()) -> Folder:
     if len({path.parent for path in daemons}) < len(daemons):
         raise Refused(f"{daemons[0].parent}: the files of FRR's daemons are those of one router: give their folder")
     for name in names:
-        path = Path("/dev/stdin" if name == "-" else name)
+        path = STANDARD_INPUT if name == "-" else Path(name)
         if not found.leaves_out(path, name):
             found.add(path, "standard input" if name == "-" else name, path.name in FRR_FILES)
     return found.ended(names[0] if len(names) == 1 else "the files")
@@ -239,7 +243,10 @@ def _frr_files(path: Path) -> list[Path]:
 
 
 def _lines(path: Path, name: str, folder: Folder) -> list[Line]:
-    data = path.read_bytes()
+    most = LONGEST_FILE + 1
+    data = streams.standard_input(most) if path == STANDARD_INPUT else read_file(str(path), most)
+    if len(data) == most:
+        raise Refused(f"{name}: has more than {LONGEST_FILE} bytes")
     if data.startswith((b"\xff\xfe", b"\xfe\xff")):
         data = data.decode("utf-16", "replace").encode()
     if b"\0" in data:

@@ -8,7 +8,7 @@ import re
 import sys
 
 from bonsainet.cli.command_line import ESCAPED, Refused, parser, printable, shown, write_output
-from bonsainet.importing.decisions import Decisions, apply_drops, read_decisions
+from bonsainet.importing.decisions import Decisions, apply_drops, decisions_in
 from bonsainet.importing.folder import Folder, Source
 from bonsainet.importing.guard import guarded
 from bonsainet.importing.ignored import is_ignored
@@ -146,10 +146,7 @@ def mark_old_report(name: str | None, is_json: bool, why: str) -> None:
 
 def _imported_by(words: argparse.Namespace) -> Report:
     """The import that the words of the command line ask for."""
-    decisions = None
-    if words.decisions:
-        with open(words.decisions, encoding="utf-8", errors="replace") as file:
-            decisions = read_decisions(file.read(), words.decisions)
+    decisions = decisions_in(words.decisions) if words.decisions else None
     program = Program()
     report = imported(
         read_given(words.given, words.skip),

@@ -18,7 +18,7 @@ from bonsainet.configs.network import Network as Parsed
 from bonsainet.configs.network import read_network
 from bonsainet.configs.profile import device_of
 from bonsainet.configs.text import text_of
-from bonsainet.importing.decisions import Decisions, read_decisions
+from bonsainet.importing.decisions import Decisions, decisions_in
 from bonsainet.importing.report import Report
 from bonsainet.importing.rules.options import Options
 from bonsainet.importing.tool import import_folder
@@ -63,7 +63,7 @@ class Network:
         ImportRefused where lines are left to a person."""
         made: Decisions | None = None
         if decisions is not None:
-            made = read_decisions(Path(decisions).read_text("utf-8", "replace"), os.fspath(decisions))
+            made = decisions_in(os.fspath(decisions))
         report = import_folder(os.fspath(path), program(BONSAI), made, Options.of(own_as, list(stubs), False))
         if report.folder.log.refusals:
             raise ImportRefused(os.fspath(path), report)

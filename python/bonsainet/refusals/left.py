@@ -5,7 +5,7 @@ from collections.abc import Sequence
 
 from bonsainet.ask.program import Program
 from bonsainet.configs.text import Line
-from bonsainet.importing.decisions import Decisions, read_decisions
+from bonsainet.importing.decisions import Decisions, decisions_in
 from bonsainet.importing.folder import Folder
 from bonsainet.importing.read import read_folder
 from bonsainet.importing.rule import Refusal
@@ -19,10 +19,7 @@ JUDGED = "what the import leaves"
 
 def left_by_import(program: Program, name: str, skip: Sequence[str], decisions: str | None) -> Refusals:
     """The refusals of an import, each with what it says of the line."""
-    decided = Decisions()
-    if decisions:
-        with open(decisions, encoding="utf-8", errors="replace") as file:
-            decided = read_decisions(file.read(), decisions)
+    decided = decisions_in(decisions) if decisions else Decisions()
     report = imported(read_folder(name, skip), program, decided)
     parts = [Part(list(router.lines)) for router in report.folder.routers]
     given = Input(name, "", parts, is_folder=True)

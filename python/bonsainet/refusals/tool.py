@@ -8,7 +8,7 @@ import re
 from collections.abc import Iterator
 from itertools import groupby
 
-from bonsainet.cli.command_line import Refused, parser, shown
+from bonsainet.cli.command_line import Refused, parser, printable, shown
 from bonsainet.importing.read import add_skip
 from bonsainet.ask.program import Program
 from bonsainet.ask.where import Identity, judged_by
@@ -114,7 +114,7 @@ def _told(entry: Entry, with_kind: bool = True) -> str:
     if entry.line is None:
         return f"the text as a whole{kind}"
     because = f" (a consequence of {entry.because})" if entry.because else ""
-    return f"{entry.line.place}: {_printable(entry.line.text.strip())}{kind} [{entry.judged}]{because}"
+    return printable(f"{entry.line.place}: {_printable(entry.line.text.strip())}{kind} [{entry.judged}]{because}")
 
 
 def _without_links(remedy: str) -> str:
@@ -132,13 +132,12 @@ def _printable(text: str) -> str:
 def _counted(found: Refusals) -> str:
     count = len(found.entries)
     if not count:
-        return f"{found.input.name}: nothing is refused"
+        return f"{printable(found.input.name)}: nothing is refused"
     places = len({entry.line.place.file for entry in found.entries if entry.line}) if found.input.is_folder else 0
     follow = sum(entry.because is not None for entry in found.entries)
     where = f" in {places} {'file' if places == 1 else 'files'}" if places else ""
-    return (
-        f"{found.input.name}: {count} {'refusal' if count == 1 else 'refusals'}{where}, {follow} of them consequences"
-    )
+    told = f"{count} {'refusal' if count == 1 else 'refusals'}{where}, {follow} of them consequences"
+    return f"{printable(found.input.name)}: {told}"
 
 
 def _entry_json(entry: Entry) -> dict[str, object]:

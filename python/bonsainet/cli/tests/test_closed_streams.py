@@ -76,10 +76,10 @@ def test_all_closed(name: str, tmp_path: Path) -> None:
     assert ran(name, tmp_path, "<&- >&- 2>&-") == (ran(name, tmp_path, "")[0] if name in SILENT else 4, b"", b"")
 
 
-@pytest.mark.parametrize("name", [name for name, words in TOOLS.items() if name != "bonsai-import"])
+@pytest.mark.parametrize("name", TOOLS)
 def test_dash_where_standard_input_is_closed(name: str, tmp_path: Path) -> None:
     words = [
-        word.replace("TEXT", "-").replace("BAD", "-").replace("MADE", str(tmp_path / "made"))
+        word.replace("TEXT", "-").replace("BAD-FOLDER", "-").replace("BAD", "-").replace("MADE", str(tmp_path / "made"))
         for word in TOOLS[name].split()
     ]
     command = ["/bin/sh", "-c", f'"$0" {" ".join(words)} <&-', str(TOP / "tools" / name)]

@@ -151,9 +151,16 @@ def test_an_interrupt_ends_before_all_is_asked(name: str, tmp_path: Path) -> Non
     assert asked.read_bytes().count(b"compress") < 32
 
 
-@pytest.mark.parametrize("name", ["bonsai-json", "bonsai-refusals"])
+ENDLESS = {
+    "bonsai-json": b"refused: FileTooLong",
+    "bonsai-refusals": b"1 refusal",
+    "bonsai-import": b"has more than 67108864 bytes",
+}
+
+
+@pytest.mark.parametrize("name", ENDLESS)
 def test_a_text_without_an_end(name: str) -> None:
-    told = b"refused: FileTooLong" if name == "bonsai-json" else b"1 refusal"
+    told = ENDLESS[name]
     for words in (["/dev/zero"], ["-"]):
         with open("/dev/zero", "rb") as endless:
             command = [str(TOP / "tools" / name), *words]

@@ -10,9 +10,9 @@ from hypothesis import given
 from hypothesis import strategies as st
 
 from bonsainet.ask.program import Program
-from bonsainet.cli.command_line import one_line, printable
+from bonsainet.cli.command_line import Refused, one_line, printable
 from bonsainet.importing.cleaning import MORE
-from bonsainet.importing.decisions import Decisions, _fits, read_decisions
+from bonsainet.importing.decisions import Decisions, _fits, decisions_in, read_decisions
 from bonsainet.importing.folder import Folder, Source
 from bonsainet.importing.judge import judge
 from bonsainet.importing.read import read_folder
@@ -110,6 +110,11 @@ def test_a_router_without_lines_is_refused_by_its_file(tmp_path: Path, program: 
     folder = Folder([Source("a", [], file="a.cfg")], {})
     judge(folder, program, lambda *_: False)
     assert [(found.place.file, found.place.line) for found in folder.log.refusals] in ([], [("a.cfg", 0)])
+
+
+def test_decisions_without_an_end() -> None:
+    with pytest.raises(Refused, match="/dev/zero: has more than 16777216 characters"):
+        decisions_in("/dev/zero")
 
 
 @pytest.mark.parametrize(
