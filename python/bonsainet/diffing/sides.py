@@ -3,6 +3,7 @@ from __future__ import annotations
 
 import contextlib
 import dataclasses
+import functools
 import os
 import re
 import sys
@@ -15,7 +16,7 @@ from bonsainet.cli.words import counted
 from bonsainet.cli.workers import workers
 from bonsainet.configs.text import text_of
 from bonsainet.diffing import git
-from bonsainet.importing.decisions import Decisions, read_decisions
+from bonsainet.importing.decisions import Decisions, decisions_in, read_decisions
 from bonsainet.importing.rules.options import Options
 from bonsainet.importing.tool import import_folder
 from bonsainet.library import BonsaiError, ImportRefused, Network
@@ -24,6 +25,7 @@ from bonsainet.library.calls import BONSAI, program
 # A revision has no two points in a row, and neither begins nor ends with a slash, as paths with `..` in them do.
 RANGE = re.compile(r"(?P<old>(?!/)(?:(?!\.\.)[^:])*?)(?<!/)(?P<points>\.{2,3})(?![./])(?P<new>(?:(?!\.\.)[^:])*)(?<!/)")
 MERGE_BASE = "..."
+PREFIX = "bonsai-diff-"
 
 
 @contextlib.contextmanager
@@ -84,8 +86,9 @@ def beside(word: str | None, side: Place) -> Place | None:
     return place_of(word)
 
 
-def network_at(side: Place, decisions: Place | None, own_as: bool) -> Network:
-    """The network of a side. Refused where it is not accepted, or is not there."""
+def network_at(side: Place, decisions: Place | None, own_as: bool, room: str | None = None) -> Network:
+    """The network of a side. Refused where it is not accepted, or is not there. What Git has of it stands for that time in
+    a folder below `room`."""
     if side.revision is None:
         if side.path != "-" and os.path.isdir(side.path):
             return _imported(side.path, side.name, decisions, own_as)
@@ -93,7 +96,7 @@ def network_at(side: Place, decisions: Place | None, own_as: bool) -> Network:
     kind, name = git.kind_and_name(side.revision, side.path)
     if kind != git.TREE:
         return _text(git.read_file(name), side.name)
-    with tempfile.TemporaryDirectory(prefix="bonsai-diff-") as made:
+    with tempfile.TemporaryDirectory(prefix=PREFIX, dir=room) as made:
         top = Path(made, "folder")
         top.mkdir()
         git.write_folder(name, side.name, top)
@@ -107,13 +110,14 @@ def networks_at(
     imported here, which says what is refused."""
     # (the program is found once, and says once if it is not proved)
     assert program(BONSAI).path
-    words = [(side, each, own_as) for side, each in zip(sides, decisions)]
+    works = [functools.partial(network_at, side, each, own_as) for side, each in zip(sides, decisions)]
     if not all(side.revision is not None or os.path.isdir(side.path) for side in sides):
-        return network_at(*words[0]), network_at(*words[1])
-    with workers(1) as pool:
-        second = pool.submit(network_at, *words[1])
-        old = network_at(*words[0])
-        return old, network_at(*words[1]) if second.exception() else second.result()
+        return works[0](), works[1]()
+    # (a signal ends the process at once: its files are this one's to remove)
+    with tempfile.TemporaryDirectory(prefix=PREFIX) as room, workers(1) as pool:
+        second = pool.submit(works[1], room)
+        old = works[0](room)
+        return old, works[1](room) if second.exception() else second.result()
 
 
 def say_changes(tool: str, network: Network) -> None:
@@ -149,7 +153,7 @@ def _imported(folder: str, name: str, decisions: Place | None, own_as: bool) -> 
 
 def _decisions(place: Place) -> Decisions:
     if place.revision is None:
-        return read_decisions(Path(place.path).read_text("utf-8", "replace"), place.path)
+        return decisions_in(place.path)
     kind, name = git.kind_and_name(place.revision, place.path)
     if kind != git.BLOB:
         raise Refused(f"{place.name}: is no file")

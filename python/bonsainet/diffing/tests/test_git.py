@@ -3,14 +3,16 @@ from __future__ import annotations
 
 import os
 import shutil
+import signal
 import subprocess
 from pathlib import Path
 
 import pytest
 
-from bonsainet.ask.program import TOP
+from bonsainet.ask.program import TOP, Program
 from bonsainet.cli.command_line import Refused
 from bonsainet.diffing.sides import RANGE, Place, beside, network_at, places
+from bonsainet.tests.asking import LATEST, slow_program, wait_for
 
 FOLDER = TOP / "examples" / "folders" / "campus"
 
@@ -50,6 +52,21 @@ def test_two_revisions(repository: Path) -> None:
     assert "acc1" in old.routers and "acc9" in new.routers and "acc1" not in new.routers
     assert git(repository, "status", "--porcelain") == before == "M configs/acc1.cfg"
     assert (repository / "configs" / "acc1.cfg").read_text() == "nonsense\n"
+
+
+@pytest.mark.parametrize("number", [signal.SIGTERM, signal.SIGHUP, signal.SIGINT])
+def test_a_signal_leaves_no_folder(number: signal.Signals, repository: Path, tmp_path: Path, program: Program) -> None:
+    """Not that of the process that imports the second side either."""
+    slow_program(program, tmp_path, "0.5")
+    room = tmp_path / "room"
+    room.mkdir()
+    env = {**os.environ, "BONSAI_PROGRAM": str(tmp_path / "slow"), "TMPDIR": str(room)}
+    words = [str(TOP / "tools/bonsai-diff"), "main..change", "configs", "--decisions", "decisions"]
+    with subprocess.Popen(words, env=env, stdout=subprocess.DEVNULL, stderr=subprocess.DEVNULL) as started:
+        wait_for(lambda: len(list(room.glob("**/folder"))) == 2)
+        started.send_signal(number)
+        assert started.wait(LATEST) == 128 + number
+    assert list(room.iterdir()) == []
 
 
 def test_the_folder_in_which_one_stands(repository: Path, monkeypatch: pytest.MonkeyPatch) -> None:
