@@ -28,7 +28,7 @@ from hostile.judge.reading import lines_of, split
 from hostile.judge.rests import Down, TooLarge
 from hostile.makers import asked as maker
 from hostile.makers import disputes, internets, networks
-from hostile.makers.shapes import shape
+from hostile.makers.shapes import MOST, shape
 from hostile.recording import keep_record, told_of
 
 CALLS = 8
@@ -36,6 +36,8 @@ READERS = ("search", "solver")
 SELDOM = 100_000
 """How many objects are made between two looks for garbage: what is made here is let go of by itself."""
 REFUSED, USAGE = 1, 2
+SOME = 0.25
+"""How many of the texts get a call of their own where none is asked for, besides those of a loss."""
 FILES = 0.3
 """How many of the calls have a file of questions."""
 MEASURED = Path(__file__).resolve().parent / "measured"
@@ -80,16 +82,16 @@ class Found:
         self.ends[f"status {answer.status}" + (" tied" if b" tied " in answer.out else "")] += 1
 
 
-def text_of(chance: random.Random) -> bytes:
-    """A network of either protocol; most are of BGP, and many of these dispute."""
+def text_of(chance: random.Random, most: int = MOST) -> bytes:
+    """A network of either protocol, of so many routers or of a known gadget; most are of BGP, and many of these dispute."""
     how = chance.random()
     if how < 0.5:
-        return disputes.text(chance).encode()
+        return disputes.text(chance, most).encode()
     if how < 0.7:
-        return networks.text(chance).encode()
+        return networks.text(chance, most).encode()
     if how < 0.85:
-        return networks.ospf(chance, shape(chance)).encode()
-    return (internets.text if how < 0.94 else internets.tied)(chance).encode()
+        return networks.ospf(chance, shape(chance, most)).encode()
+    return (internets.text(chance, most) if how < 0.94 else internets.tied(chance)).encode()
 
 
 def fault(
@@ -151,6 +153,7 @@ class How:
     reader: str
     calls: int
     keep: Path
+    most: int = MOST
 
 
 def reader_of(name: str) -> asked.Reader:
@@ -167,7 +170,8 @@ def over_text(program: Asker, text: bytes, start: int, found: Found, how: How) -
     found.texts += 1
     found.kinds.update(kinds_of(net))
     made = maker.Maker(chance, EMPTY if isinstance(net, answers.Expected) else net)
-    for _ in range(how.calls if not isinstance(net, answers.Expected) else 1):
+    calls = how.calls or int(chance.random() < SOME)
+    for _ in range(calls if not isinstance(net, answers.Expected) else 1):
         _ask(program, text, start, net, made, found, how)
     if isinstance(net, answers.Expected) or (loss := asked_shut.loss_of(chance, text, net)) is None:
         return
@@ -241,7 +245,7 @@ def _ask_lost(
         return
     words = ["questions", "S"]
     why = fault(net, words, without, reader_of(how.reader), loss.without)
-    for one in loss.questions:
+    for one in [*loss.questions, *loss.others]:
         found.note(one)
     found.commands["of the text that is shut"] += len(loss.questions)
     found.kinds["shut"] += 1
@@ -279,7 +283,7 @@ def part_of_job(how: How, number: int, turn: int, seconds: float) -> tuple[Found
         while time.monotonic() < until:
             turn += 1
             start = how.seed * 1_000_003 + number * 100_000_007 + turn
-            over_text(program, text_of(random.Random(start)), start, found, how)
+            over_text(program, text_of(random.Random(start), how.most), start, found, how)
     finally:
         program.close()
     return found, turn
@@ -310,7 +314,15 @@ def main(arguments: list[str] | None = None) -> int:
     parser.add_argument("--seconds", type=float, default=20, help="how long (default 20)")
     parser.add_argument("--texts", type=int, help="end when so many texts were asked")
     parser.add_argument("--commands", type=int, help="end when so many commands were asked and judged")
-    parser.add_argument("--calls", type=int, default=CALLS, help="how many commands a text gets (default %(default)s)")
+    parser.add_argument(
+        "--calls",
+        type=int,
+        default=CALLS,
+        help="how many calls a text gets besides those of a loss (default %(default)s); with 0 one text in four gets one",
+    )
+    parser.add_argument(
+        "--most", type=int, default=MOST, help="how many routers most texts have at most (default %(default)s)"
+    )
     parser.add_argument(
         "--by",
         choices=READERS,
@@ -330,7 +342,7 @@ def main(arguments: list[str] | None = None) -> int:
     if given.by == "solver" and not shutil.which("z3"):
         print("ask: left out: the program z3 is not there: install the package z3")
         return 0
-    how = How(os.path.abspath(program), seed, given.by, given.calls, given.keep)
+    how = How(os.path.abspath(program), seed, given.by, given.calls, given.keep, given.most)
     load, begun = os.getloadavg()[0], time.monotonic()
     found = run(how, given.seconds, given.jobs, given.texts, given.commands)
     table = {

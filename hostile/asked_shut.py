@@ -10,19 +10,22 @@ import re
 
 from bonsainet.ask.program import Answer
 from hostile.asking import Asker
+from hostile.judge import asked_words
 from hostile.judge.problem import Network
 from hostile.makers.asked import Maker
 from hostile.makers.shut import pair_to_lose, shut
 
 MOST_QUESTIONS = 4
+MOST_OTHERS = 3
 
 
 @dataclasses.dataclass(frozen=True)
 class Loss:
-    """A loss of the links between two routers: the questions as words behind the class, a file that asks them `without`
-    these links, one that asks them of the text in which the links are shut, and that text."""
+    """A loss of the links between two routers: the questions `without` these links, others about the same text, a file with
+    both, one that asks the first of the text in which the links are shut, and that text."""
 
     questions: list[list[str]]
+    others: list[list[str]]
     without: bytes
     after: bytes
     shut: bytes
@@ -36,12 +39,26 @@ def loss_of(chance: random.Random, text: bytes, net: Network) -> Loss | None:
     number = str(chance.randint(1, len(net.classes)))
     lost = ":".join(net.routers[place].name for place in pair)
     asked = [_task(chance, net) for _ in range(chance.randint(1, MOST_QUESTIONS))]
+    without = [[number, "without", lost, *task] for task in asked]
+    others = [
+        words for words in (Maker(chance, net).words(False) for _ in range(MOST_OTHERS)) if _is_answered(net, words)
+    ]
     return Loss(
-        [[number, "without", lost, *task] for task in asked],
-        _file([number, "without", lost, *task] for task in asked),
+        without,
+        others,
+        _file([*without, *others]),
         _file([number, *task] for task in asked),
         shut(text, net, pair),
     )
+
+
+def _is_answered(net: Network, words: list[str]) -> bool:
+    """Whether words ask something of a network, so that a file with them is not refused."""
+    try:
+        asked_words.call_of(net, words)
+        return True
+    except (asked_words.NoForm, asked_words.Unanswered):
+        return False
 
 
 def _task(chance: random.Random, net: Network) -> list[str]:
@@ -77,11 +94,11 @@ def essence(words: list[str], told: str) -> object:
 
 def fault(loss: Loss, without: Answer, after: Answer) -> tuple[list[str], str] | None:
     """The words of the first question whose two answers differ, with the answer of the text that is shut; or None."""
-    one, other = blocks(without), blocks(after)
+    one, other = blocks(without)[: len(loss.questions)], blocks(after)
     for at, words in enumerate(loss.questions):
         if len(one) == len(other) == len(loss.questions) and essence(words, one[at]) == essence(words, other[at]):
             continue
         return words, f"as of the text that is shut: status {after.status}\n{after.text}{after.reason}"
-    if without.status != after.status:
+    if not loss.others and without.status != after.status:
         return loss.questions[0], f"status {after.status}, as of the text that is shut"
     return None

@@ -4,7 +4,7 @@ from __future__ import annotations
 
 import random
 
-from hostile.makers.shapes import Shape, mask, own_address, ports, shape
+from hostile.makers.shapes import MOST, Shape, mask, own_address, ports, shape
 
 PREFERENCES = [90, 100, 100, 130, 200]
 COMMUNITIES = ["1:1", "2:2"]
@@ -15,11 +15,11 @@ GADGETS = {
 }
 
 
-def text(chance: random.Random) -> str:
+def text(chance: random.Random, most: int = MOST) -> str:
     """A network in which preferences dispute: a known gadget, or a random shape."""
     if chance.random() < 0.3:
         return gadget(chance, *chance.choice(sorted(GADGETS.items())))
-    one = shape(chance)
+    one = shape(chance, most)
     tagged = chance.random() < 0.6
     wild = chance.choice([0.1, 0.3, 0.6, 0.9])
     lines: list[str] = []

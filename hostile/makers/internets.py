@@ -6,15 +6,15 @@ from __future__ import annotations
 import random
 
 from hostile.makers.disputes import start
-from hostile.makers.shapes import Shape, ports
+from hostile.makers.shapes import MOST, Shape, ports
 
 CUSTOMER, PEER, PROVIDER = 130, 100, 90
 LEAKS = 0.1
 
 
-def text(chance: random.Random) -> str:
+def text(chance: random.Random, most: int = MOST) -> str:
     """An internet: each AS but the first has one or two providers among those before it; some are peers."""
-    count = chance.randint(3, 7)
+    count = chance.randint(3, max(3, most))
     above = {(place, top) for place in range(1, count) for top in _some(chance, place)}
     beside = {
         (low, high)

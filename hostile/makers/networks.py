@@ -4,15 +4,15 @@ from __future__ import annotations
 import random
 
 from hostile.makers import forms, policies
-from hostile.makers.shapes import Shape, mask, own_address, ports, shape
+from hostile.makers.shapes import MOST, Shape, mask, own_address, ports, shape
 
 TYPES = ["Serial", "Ethernet", "GigabitEthernet", "FastEthernet", "TenGigabitEthernet", "Vlan9"]
 
 
-def text(chance: random.Random) -> str:
+def text(chance: random.Random, most: int = MOST) -> str:
     """A network of either protocol."""
     write = chance.choice([bgp, bgp, bgp, ospf])
-    return forms.commented(chance, write(chance, shape(chance)), 0.15)
+    return forms.commented(chance, write(chance, shape(chance, most)), 0.15)
 
 
 def _start(one: Shape, place: int) -> list[str]:

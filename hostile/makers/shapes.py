@@ -20,9 +20,12 @@ class Shape:
     origins: dict[int, list[tuple[str, int]]]
 
 
-def shape(chance: random.Random) -> Shape:
-    """Two to seven routers: a tree with more links, a star, a ring, a mesh or two layers; with parallel links."""
-    count = chance.randint(2, 7)
+MOST = 7
+
+
+def shape(chance: random.Random, most: int = MOST) -> Shape:
+    """Two or more routers: a tree with more links, a star, a ring, a mesh or two layers; with parallel links."""
+    count = chance.randint(2, most)
     how = chance.random()
     if how < 0.4:
         pairs = [(chance.randrange(place), place) for place in range(1, count) if chance.random() < 0.95]

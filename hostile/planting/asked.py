@@ -23,7 +23,7 @@ PAGE = TOP / "hostile" / "README.md"
 BEGIN = "<!-- ask faults: this table is written by hostile/plant --asked --record -->"
 END = "<!-- ask faults: end -->"
 TEXTS = 20
-CALLS = 8
+CALLS = 4
 
 
 @dataclasses.dataclass(frozen=True)

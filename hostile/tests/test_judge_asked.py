@@ -1,5 +1,6 @@
 """The second reader of questions: solutions by trying all, ties, failures, words, and what it takes for an answer."""
 
+import dataclasses
 import random
 
 import pytest
@@ -202,7 +203,8 @@ def a_loss():
 def test_a_loss_is_asked_in_two_ways():
     text, loss = a_loss()
     assert loss.shut.count(b"shutdown") >= 1 and b"without" not in loss.after
-    assert [line.split() for line in loss.without.decode().splitlines()] == loss.questions
+    assert [line.split() for line in loss.without.decode().splitlines()] == [*loss.questions, *loss.others]
+    assert loss.others and len(loss.after.splitlines()) == len(loss.questions)
     same = Echo(lambda is_lost, words: f"class 1 {'no' if is_lost else 'yes'}\n")
     assert asked_shut.fault(loss, *asked_shut.asked(same, text, loss)) is None
     other = Echo(lambda _, words: f"class 1 {'yes' if 'without' in words else 'no'}\n")
@@ -218,9 +220,21 @@ def test_each_question_of_a_loss_is_compared():
     )
     words, _ = asked_shut.fault(loss, *asked_shut.asked(other, text, loss))
     assert words[3:] == last
-    one, two = asked_shut.asked(other, text, loss)
-    assert asked_shut.fault(loss, one, Answer(8, one.out, b""))[1].startswith("status 8")
+    one, _ = asked_shut.asked(other, text, loss)
     assert asked_shut.fault(loss, one, Answer(1, b"", b"refused: x\n"))
+
+
+def test_the_status_of_a_loss_is_compared_where_nothing_else_is_asked():
+    text, loss = a_loss()
+    alone = dataclasses.replace(loss, others=[], without="\n".join(map(" ".join, loss.questions)).encode())
+    one, other = asked_shut.asked(Echo(lambda *_: "class 1 no\n"), text, alone)
+    assert asked_shut.fault(alone, one, other) is None
+    assert asked_shut.fault(alone, one, Answer(8, other.out, b""))[1].startswith("status 8")
+
+
+def test_texts_have_as_many_routers_as_asked_for():
+    counts = {text_of(random.Random(seed), 3).count(b"hostname") for seed in range(80)}
+    assert {2, 3} <= counts and sorted(counts)[len(counts) // 2] <= 5
 
 
 def test_solutions_may_come_in_any_order():
