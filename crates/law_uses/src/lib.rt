@@ -2,9 +2,11 @@
 //!
 //! Each function here gets its promise from calls of laws, with no proof of its own. The laws of
 //! `srp_core` speak of routing problems: a caller reads a problem once, as by `count`, so that its rules
-//! are known. Those of `given_laws` and `cfg_round_trip` speak of networks that a text gives.
+//! are known. Those of `given_laws` and `cfg_round_trip` speak of networks that a text gives. `questions` asks
+//! what a caller wants to know of the small network.
 #![tactic(auto)]
 
+pub mod questions;
 pub mod texts;
 
 ghost use Rattle.std.specs.Prelude.{◌≡◌};

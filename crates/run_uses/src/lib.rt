@@ -5,6 +5,8 @@
 //! the same for the calls below.
 #![tactic(auto)]
 
+pub mod memory;
+
 ghost use Rattle.std.specs.Prelude.{◌≡◌, ◌≤◌, ◌⊎◌, ℕ, List, [], ◌∷◌, codes, Some, None, IsSome, false};
 ghost use Rattle.answer_kit.specs.Outcome.{code_of};
 ghost use Rattle.io_kit.specs.Ends.{Rose};

@@ -13,21 +13,14 @@ use Rattle.solution_check.specs.declared.judgement.Answer.{Answer}
 use Rattle.solution_check.specs.declared.judgement.Answer.TheVariants.{Stable, Not}
 use Rattle.solution_check.specs.Breaks.{Judges}
 use Rattle.solution_text.specs.Printed.{labels_text}
-use Rattle.answer_kit.specs.ClassNumbers.{class_at}
 use Rattle.answer_kit.specs.Outcome.{Outcome, done, not_stable}
 use Rattle.answer_kit.proofs.OneClass.{some_prefix}
 use Rattle.answer_solutions.specs.declared.sides.Sides.{Sides}
 use Rattle.answer_solutions.specs.Carries.{AreSides, IsFolded, IsFoldOf, IsFoldOfLabels, IsLifted, IsLiftOf, IsLiftOfLabels, IsOfStable}
 use Rattle.answer_solutions.specs.Checks.{break_reason}
-use Rattle.workflow_laws.specs.Commands as command
-use Rattle.workflow_laws.specs.Existence.{SolutionsAreCarried}
-use Rattle.workflow_laws.specs.Words.{fold, lift}
-use Rattle.workflow_laws.proofs.Answers.{of_text}
 use Rattle.workflow_laws.proofs.Carrying.{is_folded, is_lifted, HasCarrying, IsPair}
 use Rattle.workflow_laws.proofs.Decided.{is_judged, IsComplete, IsSound}
-use Rattle.workflow_laws.proofs.Existence.{has_outcome, of_number, of_texts}
 use Rattle.workflow_laws.proofs.Labelled.{of_solution, SomeOf}
-use Rattle.workflow_laws.proofs.Named.{names_fold, names_lift}
 
 -- labels are judged, and work is done on stable ones
 judged_work : IsSound → IsComplete → (P : Problem) (A : Outcome → Type 0) (labels : List (Option Route)) → AreLabels P labels
@@ -71,21 +64,3 @@ module _ (sound : IsSound) (complete : IsComplete) (laws : HasCarrying) (is_quot
     some_lift =
         let o = of_solution s.small are.small_rules (IsLiftOfLabels s) lifted second told in
         (o.0, record { sides = s; are = are; solution = o.1 })
-
-pub solutions_are_carried : IsSound → IsComplete → HasCarrying → QuotientIsQuotient → SolutionsAreCarried
-solutions_are_carried sound complete laws is_quotient contents F S T text N small holds told h =
-    let r = h.outcome in
-    let own = of_text (fold F N S) contents (command.Fold N) refl (names_fold F S N small) text holds r h.allowed in
-    let second = contents S in
-    record {
-      fold = has_outcome (fold F N T) contents (command.Fold N) refl (names_fold F T N small) text holds
-          (of_texts (command.Fold N) (command.Fold N) second (contents T) r
-          (λ n is. of_number n N (IsFoldOf n second) (IsFoldOf n (contents T))
-          (λ class has q x. some_fold sound complete laws is_quotient n class has x.sides x.are (contents T) told)
-          (class_at (classes_of n) N) refl r is) text own);
-      lift = has_outcome (lift F N T) contents (command.Lift N) refl (names_lift F T N small) text holds
-          (of_texts (command.Fold N) (command.Lift N) second (contents T) r
-          (λ n is. of_number n N (IsFoldOf n second) (IsLiftOf n (contents T))
-          (λ class has q x. some_lift sound complete laws is_quotient n class has x.sides x.are (contents T) told)
-          (class_at (classes_of n) N) refl r is) text own);
-    }

@@ -1,5 +1,5 @@
 -- The typed words name their commands.
-use Rattle.std.proofs.Common.{◌≡◌, ◌≤◌, ℕ, true, List, [], ◌∷◌, refl, ap, ◌∙◌, arith, Option, Some, None, codes, if◌then◌else◌}
+use Rattle.std.proofs.Common.{◌≡◌, ◌≤◌, ℕ, true, List, [], ◌∷◌, refl, ap, ◌∙◌, arith, Some, None, codes, if◌then◌else◌}
 use Rattle.std.specs.Prelude.{decimal, nat_le}
 use Rattle.std.specs.Option.{option_map, option_and_then}
 use Rattle.std.proofs.lemmas.Bool.Decides.{nat_tests}
@@ -14,7 +14,7 @@ use Rattle.bonsai_top.specs.Words.{short, short_number_of}
 use Rattle.bonsai_top.specs.Commands.{class_command, second_command, command_of}
 use Rattle.workflow_laws.specs.Commands as command
 use Rattle.workflow_laws.specs.Setting.{IsShort}
-use Rattle.workflow_laws.specs.Words.{classes, groups, compress, report, json, certify, check, fold, lift, run, reach, verify}
+use Rattle.workflow_laws.specs.Words.{groups, compress, certify, check, fold, lift, run, reach, verify}
 
 number_read : (n : ℕ) → n ≤ 4294967295 → number_of (decimal n) ≡ Some n
 number_read n small = up_to_back 4294967295 n small (omega arith)
@@ -39,22 +39,12 @@ of_second name file second n small of named =
     ap (option_and_then (λ (c : SecondCommand). option_map (OnSecond c) (short_number_of (decimal n)))) named ∙ ap (option_map (OnSecond of))
     (short_read n small)
 
-pub names_classes : (F : List ℕ) → command_of (classes F) ≡ Some command.Classes
-unfolding command_of
-names_classes F = refl
-
 module _ (F : List ℕ) (N : ℕ) (small : IsShort N) where
   pub names_groups : command_of (groups F N) ≡ Some (command.Groups N)
   names_groups = of_class (codes "groups") F N small on_class.Groups refl
 
   pub names_compress : command_of (compress F N) ≡ Some (command.Compress N)
   names_compress = of_class (codes "compress") F N small on_class.Compress refl
-
-  pub names_report : command_of (report F N) ≡ Some (command.ReportOn N)
-  names_report = of_class (codes "report") F N small on_class.Report refl
-
-  pub names_json : command_of (json F N) ≡ Some (command.Json N)
-  names_json = of_class (codes "json") F N small on_class.Json refl
 
   pub names_certify : command_of (certify F N) ≡ Some (command.Certify N)
   names_certify = of_class (codes "certify") F N small on_class.Certify refl

@@ -1,25 +1,15 @@
 -- The commands that the words name, each on the class of a number.
 use Rattle.std.specs.Prelude.{ℕ}
-use Rattle.bonsai_top.specs.declared.command.NetworkCommand.TheVariants as on_network
 use Rattle.bonsai_top.specs.declared.command.ClassCommand.TheVariants as on_class
 use Rattle.bonsai_top.specs.declared.command.SecondCommand.TheVariants as on_second
 use Rattle.bonsai_top.specs.declared.command.Command.{Command}
-use Rattle.bonsai_top.specs.declared.command.Command.TheVariants.{OnNetwork, OnClass, OnSecond}
-
-abbrev pub Classes : Command
-Classes = OnNetwork on_network.Classes
+use Rattle.bonsai_top.specs.declared.command.Command.TheVariants.{OnClass, OnSecond}
 
 abbrev pub Groups : ℕ → Command
 Groups = OnClass on_class.Groups
 
 abbrev pub Compress : ℕ → Command
 Compress = OnClass on_class.Compress
-
-abbrev pub ReportOn : ℕ → Command
-ReportOn = OnClass on_class.Report
-
-abbrev pub Json : ℕ → Command
-Json = OnClass on_class.Json
 
 abbrev pub Certify : ℕ → Command
 Certify = OnClass on_class.Certify

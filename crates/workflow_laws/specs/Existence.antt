@@ -1,5 +1,5 @@
 -- There is an outcome, and only one except for the choice of a certificate.
-use Rattle.std.specs.Prelude.{◌≡◌, ◌≢◌, ◌⊎◌, ℕ, List, Some, IsSome, Err}
+use Rattle.std.specs.Prelude.{◌≡◌, ◌≢◌, ◌⊎◌, ℕ, List, Some, Err}
 use Rattle.cfg_ast.specs.declared.refusal.ReadRefusal.TheVariants.{Memory}
 use Rattle.cfg_ast.specs.text.Reading.{reading_of}
 use Rattle.answer_kit.specs.declared.status.Status.TheVariants.{Done}
@@ -8,8 +8,7 @@ use Rattle.bonsai_top.specs.Commands.{command_of}
 use Rattle.bonsai_top.specs.OneOutcome.{AreTold}
 use Rattle.bonsai_top.specs.Outcomes.{IsOutcome}
 use Rattle.workflow_laws.specs.Commands.{Certify}
-use Rattle.workflow_laws.specs.Setting.{Contents, IsShort}
-use Rattle.workflow_laws.specs.Words.{check, classes, compress, fold, groups, json, lift, reach, report, run}
+use Rattle.workflow_laws.specs.Setting.{Contents}
 
 -- The words ask for a certificate, and both outcomes are done.
 pub record AreCertificates (words : List (List ℕ)) (o p : Outcome) : Type 0 where
@@ -28,35 +27,6 @@ OutcomesAgree = (words : List (List ℕ)) (contents : Contents) → AreTold word
 pub record HasOutcome (words : List (List ℕ)) (contents : Contents) : Type 0 where
   pub outcome : Outcome
   pub allowed : IsOutcome words contents outcome
-
--- the commands on a class, and those that read a solution or a schedule
-pub record HaveOutcomes (contents : Contents) (F S : List ℕ) (N : ℕ) : Type 0 where
-  pub classes : HasOutcome (classes F) contents
-  pub groups : HasOutcome (groups F N) contents
-  pub compress : HasOutcome (compress F N) contents
-  pub json : HasOutcome (json F N) contents
-  pub check : HasOutcome (check F N S) contents
-  pub run : HasOutcome (run F N S) contents
-  pub reach : HasOutcome (reach F N S) contents
-
--- If `report F N` has an outcome, then `classes F`, `groups F N`, `compress F N` and `json F N` have
--- one, and `check F N S`, `run F N S` and `reach F N S` have one whatever S holds.
-abbrev pub OutcomesComeTogether : Type 0
-OutcomesComeTogether = (contents : Contents) (F S text : List ℕ) (N : ℕ) → IsShort N → contents F ≡ Some text → IsSome (contents S)
-    → HasOutcome (report F N) contents → HaveOutcomes contents F S N
-
--- the commands that carry a solution
-pub record HaveCarried (contents : Contents) (F S : List ℕ) (N : ℕ) : Type 0 where
-  pub fold : HasOutcome (fold F N S) contents
-  pub lift : HasOutcome (lift F N S) contents
-
--- If `fold F N S` has an outcome for one S, then `fold F N T` and `lift F N T` have one, whatever T
--- holds.
-abbrev pub SolutionsAreCarried : Type 0
-SolutionsAreCarried = (contents : Contents) (F S T text : List ℕ) (N : ℕ) → IsShort N → contents F ≡ Some text → IsSome (contents T)
-    → HasOutcome (fold F N S) contents → HaveCarried contents F T N
-
--- ---- there is an outcome
 
 -- Each text is read, or refused for a line and a kind.
 abbrev pub EachTextIsJudged : Type 0

@@ -1,20 +1,11 @@
 -- The words that a person types for each command, over a file, the number of a class and a second file.
 use Rattle.std.specs.Prelude.{ℕ, List, [], ◌∷◌, codes, decimal}
 
-abbrev pub classes : List ℕ → List (List ℕ)
-classes file = codes "classes" ∷ file ∷ []
-
 abbrev pub groups : List ℕ → ℕ → List (List ℕ)
 groups file number = codes "groups" ∷ file ∷ decimal number ∷ []
 
 abbrev pub compress : List ℕ → ℕ → List (List ℕ)
 compress file number = codes "compress" ∷ file ∷ decimal number ∷ []
-
-abbrev pub report : List ℕ → ℕ → List (List ℕ)
-report file number = codes "report" ∷ file ∷ decimal number ∷ []
-
-abbrev pub json : List ℕ → ℕ → List (List ℕ)
-json file number = codes "json" ∷ file ∷ decimal number ∷ []
 
 abbrev pub certify : List ℕ → ℕ → List (List ℕ)
 certify file number = codes "certify" ∷ file ∷ decimal number ∷ []

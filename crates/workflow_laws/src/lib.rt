@@ -10,7 +10,7 @@ ghost use Rattle.workflow_laws.specs.CarriedDown.{CheckIsFold, WhatIsFoldedIsLif
 ghost use Rattle.workflow_laws.specs.CarriedUp.{CheckBelowIsLift, WhatIsLiftedIsStable};
 ghost use Rattle.workflow_laws.specs.Certificates.{WhatIsCertifiedIsVerified, WhatIsVerifiedNamesTheGroups};
 ghost use Rattle.workflow_laws.specs.ClassKept.{ClassIsKept};
-ghost use Rattle.workflow_laws.specs.Existence.{EachTextIsJudged, OutcomesAgree, OutcomesComeTogether, SolutionsAreCarried, ThereIsAnOutcome};
+ghost use Rattle.workflow_laws.specs.Existence.{EachTextIsJudged, OutcomesAgree, ThereIsAnOutcome};
 ghost use Rattle.workflow_laws.specs.Orders.{WhatIsReachedRests, WhatRestsIsStable};
 ghost use Rattle.workflow_laws.specs.PrintedShort.{PrintedIsShort};
 ghost use Rattle.workflow_laws.specs.Questions.{EachQuestionCarries, SmallAnswersForLarge};
@@ -178,30 +178,6 @@ pub fn outcomes_agree()
     ensures { OutcomesAgree }
 {
     outcome_is_one();
-}
-
-/// If `report` has an outcome, other commands on the class have one too, for every solution and every
-/// schedule.
-pub fn outcomes_come_together()
-    ensures { OutcomesComeTogether }
-{
-    listed_candidates();
-    one_order();
-    rest();
-}
-
-/// If `fold` has an outcome for one solution, `fold` and `lift` have one for each solution.
-pub fn solutions_are_carried()
-    ensures { SolutionsAreCarried }
-{
-    listed_candidates();
-    lifts_and_folds_exist();
-    folds();
-    lifts();
-    ospf_folds();
-    ospf_lifts();
-    equal_keys();
-    quotient_is_quotient();
 }
 
 /// Each text is read, or refused for a line and a kind.
