@@ -2,18 +2,14 @@
 from __future__ import annotations
 
 import argparse
-import contextlib
-import datetime
 import hashlib
-import json
-import os
 import sys
 from pathlib import Path
 
 from hostile import everything, running
 from hostile.asking import Asker, Counts
+from hostile.begun import log_of, seed_of, words_given
 from bonsainet.ask.where import NoProgram
-from bonsainet.cli import streams
 from bonsainet.cli.command_line import Refused
 
 
@@ -70,17 +66,13 @@ def words() -> argparse.ArgumentParser:
 
 def main(arguments: list[str] | None = None) -> int:
     """Status 0 without a difference, 1 with one or without a program, 2 for wrong words, 3 where a file can't be read or made."""
-    streams.hold()
-    streams.end_by_signals()
     parser = words()
-    given = parser.parse_args(arguments)
+    given = words_given(parser, arguments)
     try:
         Asker().close()
     except (Refused, NoProgram) as why:
         parser.exit(1, f"hostile/run: refused: {why}\n")
-    if given.jobs < 1:
-        parser.error("--jobs is at least 1")
-    seed = given.seed if given.seed is not None else int.from_bytes(os.urandom(3), "big")
+    seed = seed_of(given)
     if given.all:
         return everything.run(given.seconds, given.jobs, seed)
     if given.only is not None:
@@ -99,15 +91,8 @@ def main(arguments: list[str] | None = None) -> int:
         given.unshrunk,
     )
     print(f"seed {seed}", flush=True)
-    with contextlib.ExitStack() as room:
-        log = None
-        if given.log:
-            try:
-                given.log.parent.mkdir(parents=True, exist_ok=True)
-                log = room.enter_context(given.log.open("a", encoding="utf-8"))
-            except OSError as fault:
-                parser.exit(3, f"hostile/run: {given.log}: {fault.strerror}\n")
-            print(head_of_log(plan), file=log, flush=True)
+    told = {"seed": seed, "jobs": plan.jobs, "for_seconds": plan.seconds, "program_sha256": sum_of_program()}
+    with log_of(parser, given, **told) as log:
         found, seconds = running.run(plan, log)
     print(running.report(found, seconds, plan.jobs), end="")
     if found.runs < given.at_least:
@@ -115,15 +100,11 @@ def main(arguments: list[str] | None = None) -> int:
     return 1 if found.differences or found.runs < given.at_least else 0
 
 
-def head_of_log(plan: running.Plan) -> str:
-    """When and over which program a run began, as one line of JSON."""
+def sum_of_program() -> str:
+    """The SHA-256 sum of the program that is asked."""
     program = Asker()
-    sum_of = hashlib.sha256(Path(program.path).read_bytes()).hexdigest()
     program.close()
-    now = datetime.datetime.now(datetime.timezone.utc).isoformat(timespec="seconds")
-    return json.dumps(
-        {"begun": now, "seed": plan.seed, "jobs": plan.jobs, "for_seconds": plan.seconds, "program_sha256": sum_of}
-    )
+    return hashlib.sha256(Path(program.path).read_bytes()).hexdigest()
 
 
 def _alone(parser: argparse.ArgumentParser, file: Path, seed: int) -> int:

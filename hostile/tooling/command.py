@@ -3,12 +3,9 @@ from __future__ import annotations
 
 import argparse
 import concurrent.futures
-import contextlib
 import dataclasses
-import datetime
 import functools
 import json
-import os
 import random
 import sys
 import tempfile
@@ -21,8 +18,8 @@ from typing import TextIO
 
 from bonsainet.ask.program import Program
 from bonsainet.ask.where import NoProgram
-from bonsainet.cli import streams
 from bonsainet.cli.workers import workers
+from hostile.begun import log_of, seed_of, words_given
 from hostile.tooling import folders, processes, texts
 
 Attack = Callable[[random.Random, Path, Program], list[str]]
@@ -136,12 +133,8 @@ def words() -> argparse.ArgumentParser:
 
 def main(arguments: list[str] | None = None) -> int:
     """Status 0 without a failure, 1 with one or without a program, 2 for wrong words, 3 where the log can't be made."""
-    streams.hold()
-    streams.end_by_signals()
     parser = words()
-    given = parser.parse_args(arguments)
-    if given.jobs < 1:
-        parser.error("--jobs is at least 1")
+    given = words_given(parser, arguments)
     try:
         sum_of = _program().identity.sha256
     except NoProgram as why:
@@ -152,22 +145,9 @@ def main(arguments: list[str] | None = None) -> int:
             "\n".join([f"case {given.only}, {name}", *faults] if faults else [f"case {given.only}, {name}: no failure"])
         )
         return 1 if faults else 0
-    seed = given.seed if given.seed is not None else int.from_bytes(os.urandom(3), "big")
+    seed = seed_of(given)
     print(f"seed {seed}", flush=True)
-    with contextlib.ExitStack() as room:
-        log = None
-        if given.log:
-            try:
-                given.log.parent.mkdir(parents=True, exist_ok=True)
-                log = room.enter_context(given.log.open("a", encoding="utf-8"))
-            except OSError as fault:
-                parser.exit(3, f"hostile/tools: {given.log}: {fault.strerror}\n")
-            now = datetime.datetime.now(datetime.timezone.utc).isoformat(timespec="seconds")
-            print(
-                json.dumps({"begun": now, "seed": seed, "jobs": given.jobs, "program_sha256": sum_of}),
-                file=log,
-                flush=True,
-            )
+    with log_of(parser, given, seed=seed, jobs=given.jobs, program_sha256=sum_of) as log:
         found, seconds = run(given, seed, log)
     total = sum(found.cases.values())
     counts = ", ".join(f"{name} {count}" for name, count in sorted(found.cases.items()))
