@@ -10,7 +10,7 @@ import dataclasses
 import re
 from collections.abc import Sequence
 
-from bonsainet.ask.program import NotAnswered, Program, Status
+from bonsainet.ask.program import NotAnswered, Program, Status, refusal_of
 from bonsainet.refusals.causes import cause_of
 from bonsainet.refusals.layout import END, openers, stanza_at
 
@@ -40,10 +40,12 @@ def verdict(program: Program, text: str) -> Verdict | None:
     answer = program.ask("classes", "F", texts={"F": text})
     if answer.status == Status.DONE:
         return None
-    found = re.fullmatch(r"refused: (?:line (?P<line>\d+): )?(?P<kind>\w+)", answer.reason)
-    if answer.status != Status.REFUSED or not found:
+    if at_line := refusal_of(answer):
+        return Verdict(at_line.kind, at_line.line)
+    whole = re.fullmatch(r"refused: (\w+)", answer.reason)
+    if answer.status != Status.REFUSED or not whole:
         raise NotAnswered(answer, "classes")
-    return Verdict(found["kind"], int(found["line"]) if found["line"] else None)
+    return Verdict(whole[1], None)
 
 
 class Rest:
