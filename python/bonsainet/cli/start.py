@@ -155,6 +155,11 @@ def bench_diagrams(words: list[str] | None = None) -> int:
     return start("diagrams", "bonsainet.bench.diagrams:main", words)
 
 
+def bench_imports(words: list[str] | None = None) -> int:
+    """Runs `bench/imports`."""
+    return start("imports", "bonsainet.bench.imports:main", words)
+
+
 def bench_paper(words: list[str] | None = None) -> int:
     """Runs `bench/paper`."""
     return start("paper", "bonsainet.bench.paper:main", words)

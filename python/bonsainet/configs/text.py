@@ -7,11 +7,14 @@ from __future__ import annotations
 
 import dataclasses
 import functools
-from collections.abc import Iterable, Iterator
+from collections.abc import Callable, Iterable, Iterator
+from typing import Any, ClassVar, NamedTuple, TypeVar
+
+Item = TypeVar("Item")
+Found = TypeVar("Found")
 
 
-@dataclasses.dataclass(frozen=True)
-class Place:
+class Place(NamedTuple):
     """Where a line stands: a file's name, and a line number from 1."""
 
     file: str
@@ -21,49 +24,164 @@ class Place:
         return f"{self.file}:{self.line}"
 
 
-@dataclasses.dataclass(frozen=True)
+@functools.lru_cache(maxsize=1 << 17)
+def _words_of(text: str) -> list[str]:
+    """The words of a text. Configurations repeat their lines, and lines of one text share the list."""
+    return text.split()
+
+
 class Line:
     """One line without its end, and where it came from. A line that a tool wrote has the place of the line that caused
-    it."""
+    it. Nobody changes a line, or the list of its words."""
 
-    text: str
-    place: Place
+    __slots__ = ("text", "place", "words", "is_blank")
 
-    @functools.cached_property
-    def words(self) -> list[str]:
-        """The words of the line, which nobody changes: they are cut once."""
-        return self.text.split()
+    def __init__(self, text: str, place: Place) -> None:
+        self.text = text
+        self.place = place
+        self.words = words = _words_of(text)
+        # (no words, or a comment)
+        self.is_blank = not words or words[0][0] == "!"
+
+    def __eq__(self, other: object) -> bool:
+        return isinstance(other, Line) and self.text == other.text and self.place == other.place
+
+    def __hash__(self) -> int:
+        return hash((self.text, self.place))
+
+    def __repr__(self) -> str:
+        return f"Line({self.text!r}, {self.place!r})"
+
+    def __reduce__(self) -> tuple[Any, ...]:
+        return Line, (self.text, self.place)
 
     @property
     def is_indented(self) -> bool:
         """Whether the line belongs to the stanza above it."""
         return self.text[:1] in (" ", "\t")
 
-    @functools.cached_property
-    def is_blank(self) -> bool:
-        """Whether the line has no words, or is a comment."""
-        return self.text.lstrip()[:1] in ("", "!")
-
     def with_text(self, text: str) -> Line:
         """The same place with another text."""
         return Line(text, self.place)
 
 
-@dataclasses.dataclass
+class Kept(list[Item]):
+    """A list that keeps what was found out about it until it changes."""
+
+    def __init__(self, items: Iterable[Item] = ()) -> None:
+        super().__init__(items)
+        self.facts: dict[object, Any] = {}
+
+    def fact(self, find: Callable[[Kept[Item]], Found]) -> Found:
+        """What a function says of the list: it is asked once while the list stays as it is."""
+        facts = self.facts
+        if find not in facts:
+            facts[find] = find(self)
+        found: Found = facts[find]
+        return found
+
+    def forget(self) -> None:
+        """Nothing is known of the list any more."""
+        self.facts.clear()
+
+    def __reduce__(self) -> tuple[Any, ...]:
+        return Kept, (list(self),)
+
+
+def _forgetting(name: str) -> Callable[..., Any]:
+    change = getattr(list, name)
+
+    @functools.wraps(change)
+    def changed(self: Kept[Any], *given: Any, **named: Any) -> Any:
+        self.facts.clear()
+        return change(self, *given, **named)
+
+    return changed
+
+
+for _name in ("append", "extend", "insert", "remove", "pop", "clear", "sort", "reverse"):
+    setattr(Kept, _name, _forgetting(_name))
+for _name in ("__setitem__", "__delitem__", "__iadd__", "__imul__"):
+    setattr(Kept, _name, _forgetting(_name))
+
+
+def _lines_by_word(lines: list[Line]) -> dict[str, list[Line]]:
+    """The lines by their first word, comments and blank lines among them."""
+    found: dict[str, list[Line]] = {}
+    for line in lines:
+        words = line.words
+        found.setdefault(words[0] if words else "", []).append(line)
+    return found
+
+
 class Stanza:
     """A top line and the lines that belong to it."""
 
-    head: Line
-    body: list[Line] = dataclasses.field(default_factory=list)
+    __slots__ = ("_head", "_body")
+    # How often the first word of some head became another one.
+    changes: ClassVar[int] = 0
+
+    def __init__(self, head: Line, body: Iterable[Line] = ()) -> None:
+        self._head = head
+        self._body: Kept[Line] = Kept(body)
+
+    @property
+    def head(self) -> Line:
+        """The top line."""
+        return self._head
+
+    @head.setter
+    def head(self, head: Line) -> None:
+        if head.words[:1] != self._head.words[:1]:
+            Stanza.changes += 1
+        self._head = head
+
+    @property
+    def body(self) -> list[Line]:
+        """The lines that belong to it."""
+        return self._body
+
+    @body.setter
+    def body(self, body: list[Line]) -> None:
+        self._body = Kept(body)
+
+    def __eq__(self, other: object) -> bool:
+        return isinstance(other, Stanza) and self._head == other.head and self._body == other.body
+
+    def __repr__(self) -> str:
+        return f"Stanza({self._head!r}, {self._body!r})"
 
     @property
     def lines(self) -> list[Line]:
         """The head and then the body."""
-        return [self.head, *self.body]
+        return [self._head, *self._body]
+
+    @property
+    def by_word(self) -> dict[str, list[Line]]:
+        """The lines of the body by their first word, in their order."""
+        found: dict[str, list[Line]] | None = self._body.facts.get(_lines_by_word)
+        return found if found is not None else self._body.fact(_lines_by_word)
+
+    def fact(self, find: Callable[[list[Line]], Found]) -> Found:
+        """What a function says of the body: it is asked once while the body stays as it is."""
+        return self._body.fact(find)
 
     def starts(self, *words: str) -> bool:
         """Whether the head begins with these words."""
-        return self.head.words[: len(words)] == list(words)
+        return self._head.words[: len(words)] == list(words)
+
+
+def _changes_seen(_stanzas: list[Stanza]) -> int:
+    return Stanza.changes
+
+
+def _stanzas_by_word(stanzas: list[Stanza]) -> dict[str, list[Stanza]]:
+    """The stanzas by the first word of their heads."""
+    found: dict[str, list[Stanza]] = {}
+    for stanza in stanzas:
+        words = stanza.head.words
+        found.setdefault(words[0] if words else "", []).append(stanza)
+    return found
 
 
 @dataclasses.dataclass
@@ -76,6 +194,9 @@ class Router:
     name: str
     stanzas: list[Stanza] = dataclasses.field(default_factory=list)
 
+    def __setattr__(self, name: str, value: Any) -> None:
+        object.__setattr__(self, name, Kept(value) if name == "stanzas" else value)
+
     @property
     def lines(self) -> Iterator[Line]:
         """All lines in order, without the line ``end``."""
@@ -85,7 +206,18 @@ class Router:
     def with_head(self, *words: str) -> Iterator[Stanza]:
         """The stanzas whose head begins with these words, in order."""
         wanted, count = list(words), len(words)
-        return (stanza for stanza in self.stanzas if stanza.head.words[:count] == wanted)
+        found = self._by_word.get(words[0], [])
+        return iter(found) if count == 1 else (stanza for stanza in found if stanza.head.words[:count] == wanted)
+
+    @property
+    def _by_word(self) -> dict[str, list[Stanza]]:
+        """The stanzas by the first word of their heads, in their order."""
+        stanzas: Any = self.stanzas
+        if stanzas.fact(_changes_seen) != Stanza.changes:
+            stanzas.forget()
+            stanzas.fact(_changes_seen)
+        found: dict[str, list[Stanza]] = stanzas.fact(_stanzas_by_word)
+        return found
 
 
 def lines_of(text: str, file: str) -> list[Line]:

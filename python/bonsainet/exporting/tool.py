@@ -8,6 +8,7 @@ import os
 import shutil
 import sys
 from pathlib import Path
+from typing import Any
 
 from bonsainet.configs.change import Change
 from bonsainet.ask.accepted import accepted_text
@@ -135,13 +136,17 @@ def told(change: Change) -> str:
     return f"`{change.before}` became {after}" if change.after else f"left out `{change.before}`"
 
 
+def _plain(change: Change) -> dict[str, Any]:
+    return dataclasses.asdict(change) | {"place": change.place._asdict()}
+
+
 def json_text(exported: Exported, program: Identity) -> str:
     """Files, changes and doubts as JSON, and which program read the text."""
     record = {
         "form": 1,
         "program": program.plain,
         "files": sorted(exported.files),
-        "changes": [dataclasses.asdict(change) for change in exported.changes],
-        "doubts": [dataclasses.asdict(change) for change in exported.doubts],
+        "changes": [_plain(change) for change in exported.changes],
+        "doubts": [_plain(change) for change in exported.doubts],
     }
     return json.dumps(record) + "\n"

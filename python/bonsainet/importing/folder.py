@@ -113,8 +113,11 @@ def has(stanza: Stanza, *words: str) -> bool:
 
 def first(stanza: Stanza, *words: str) -> Line | None:
     """The first line of the body that begins with these words."""
+    lines = stanza.by_word.get(words[0])
+    if not lines or len(words) == 1:
+        return lines[0] if lines else None
     wanted, count = list(words), len(words)
-    for line in stanza.body:
+    for line in lines:
         if line.words[:count] == wanted:
             return line
     return None
@@ -126,6 +129,7 @@ def name_of(stanza: Stanza) -> str:
     return words[1] if len(words) > 1 else ""
 
 
+@functools.lru_cache(maxsize=65536)
 def kind_of(name: str) -> str:
     """The type of an interface: its name up to the first digit."""
     return re.split(r"\d", name, maxsplit=1)[0]
@@ -133,19 +137,24 @@ def kind_of(name: str) -> str:
 
 def address_given(stanza: Stanza) -> IPv4Interface | None:
     """The primary address of an interface, shut or not."""
-    for line in stanza.body:
-        words = line.words
-        if words[:2] == ["ip", "address"] and len(words) == 4:
-            return interface_address(words[2], words[3])
-    return None
+    return stanza.fact(_address_in)
 
 
 def address_of(stanza: Stanza) -> IPv4Interface | None:
     """The primary address of an up interface, else none."""
-    for line in stanza.body:
-        if line.words == ["shutdown"]:
-            return None
-    return address_given(stanza)
+    return stanza.fact(_address_if_up)
+
+
+def _address_if_up(body: list[Line]) -> IPv4Interface | None:
+    return None if any(line.words == ["shutdown"] for line in body) else _address_in(body)
+
+
+def _address_in(body: list[Line]) -> IPv4Interface | None:
+    for line in body:
+        words = line.words
+        if len(words) == 4 and words[0] == "ip" and words[1] == "address":
+            return interface_address(words[2], words[3])
+    return None
 
 
 def own_address_of(stanza: Stanza) -> IPv4Interface:

@@ -9,6 +9,7 @@ from __future__ import annotations
 import dataclasses
 from collections import defaultdict
 
+from bonsainet.cli.progress import counted_off
 from bonsainet.importing.decisions import Decisions, Unit, is_drop, units
 from bonsainet.importing.folder import Folder
 from bonsainet.importing.rewriting import begins
@@ -83,7 +84,7 @@ def guarded(folder: Folder, program: Program, options: Options, excuse: Excuse) 
     if not dropped:
         return {}
     copy = _copy(folder)
-    for step in STEPS:
+    for step in counted_off("drops looked at", len(STEPS), STEPS):
         step(copy, options)
     unsure = {unit.router.file for unit in dropped if any(_bearing(copy, unit, line) for line in unit.lines)}
     for router in copy.routers:

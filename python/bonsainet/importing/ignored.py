@@ -54,6 +54,7 @@ def _by_words(heads: tuple[tuple[str, ...], ...]) -> dict[tuple[str, ...], list[
     return found
 
 
+@functools.lru_cache(maxsize=1 << 16)
 def is_ignored(scope: str, text: str) -> bool:
     """Whether the program passes over a line of a scope."""
     words = text.split()

@@ -4,6 +4,7 @@ from __future__ import annotations
 import re
 from collections.abc import Callable
 
+from bonsainet.cli.progress import counted_off
 from bonsainet.importing.folder import Folder, Source
 from bonsainet.lines.heads import remedy_of, scope_under
 from bonsainet.lines.remedies import IMPORT
@@ -24,7 +25,7 @@ def judge(folder: Folder, program: Program, excuse: Excuse) -> None:
     """
     if not folder.log.refusals and program.refusal(text_of(folder.routers)) is None:
         return
-    for router in folder.routers:
+    for router in counted_off("routers judged", len(folder.routers), folder.routers):
         judge_router(folder, router, program, excuse)
     if not folder.log.refusals:
         _of_network(folder, program)

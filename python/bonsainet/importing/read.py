@@ -16,6 +16,7 @@ from pathlib import Path
 
 from bonsainet.cli import streams
 from bonsainet.cli.command_line import Refused, one_line, read_file
+from bonsainet.cli.progress import counted_off
 from bonsainet.importing.cleaning import cleaned
 from bonsainet.importing.daemons import without_stopped
 from bonsainet.importing.folder import Dialect, Folder, Source
@@ -166,7 +167,7 @@ def read_files(names: Sequence[str], skip: Sequence[str] = ()) -> Folder:
     daemons = [path for path in map(Path, names) if path.name in FRR_FILES]
     if len({path.parent for path in daemons}) < len(daemons):
         raise Refused(f"{daemons[0].parent}: the files of FRR's daemons are those of one router: give their folder")
-    for name in names:
+    for name in counted_off("files read", len(names), names):
         path = STANDARD_INPUT if name == "-" else Path(name)
         if not found.leaves_out(path, name):
             found.add(path, "standard input" if name == "-" else name, path.name in FRR_FILES)
@@ -187,7 +188,8 @@ def read_folder(name: str, skip: Sequence[str] = ()) -> Folder:
         _read_router_folder(top, top, found)
         return found.ended(name)
     has_folders = any(_frr_files(path) for path in top.iterdir() if path.is_dir())
-    for path in sorted(top.iterdir()):
+    paths = sorted(top.iterdir())
+    for path in counted_off("files read", len(paths), paths):
         if path.name.startswith(".") or path.name.endswith("~") or found.leaves_out(path, path.name):
             continue
         if path.is_dir():
@@ -211,7 +213,8 @@ def _read_router_folder(top: Path, path: Path, found: _Reading) -> None:
         folder.log.remarks.append(f"{path.name} was not read: it has none of FRR's files")
         return
     if not files:
-        for inner in sorted(path.iterdir()):
+        inners = sorted(path.iterdir())
+        for inner in counted_off("files read", len(inners), inners):
             name = str(inner.relative_to(top))
             if (
                 inner.is_file()
@@ -332,7 +335,7 @@ def _frr_stanzas(lines: list[Line], log: Log) -> list[Stanza]:
             and not FRR_TOP.match(text)
             and text != "end"
             or is_open
-            and stanzas[-1].starts("vrf")
+            and (stanzas[-1].starts("vrf") or stanzas[-1].starts("mpls", "ldp"))
             and line.is_indented
         ):
             stanzas[-1].body.append(line.with_text(f" {text}"))

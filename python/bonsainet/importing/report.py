@@ -140,11 +140,13 @@ def report_of(folder: Folder) -> Report:
             continue
         before, after = " ".join(raw.split()), [" ".join(line.words) for line in now]
         rules = folder.log.touched.get(place, [])
+        if place in refused:
+            continue
         if not before or (before[0] in "!#" and not rules) or after == [before]:
             continue
         if before == "end" and rules:
             continue
-        if not rules and place not in refused:
+        if not rules:
             raise Silent(f"{place}: {before!r} became {after!r} and no rule says why; this is a fault of bonsai-import")
         changes.append(
             Change(
@@ -182,4 +184,4 @@ def _became(change: Change) -> str:
 def _plain(found: object) -> dict[str, object]:
     told = dataclasses.asdict(found)
     place = told.pop("place")
-    return {**place, "file": shown(place["file"]), **told}
+    return {**place._asdict(), "file": shown(place.file), **told}

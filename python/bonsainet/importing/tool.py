@@ -2,12 +2,16 @@
 from __future__ import annotations
 
 import argparse
+import contextlib
+import gc
 import json
 import os
 import re
 import sys
+from collections.abc import Iterator
 
 from bonsainet.cli.command_line import ESCAPED, Refused, parser, printable, shown, write_output
+from bonsainet.cli.progress import counted_off
 from bonsainet.importing.decisions import Decisions, apply_drops, decisions_in
 from bonsainet.importing.folder import Folder, Source
 from bonsainet.importing.guard import guarded
@@ -56,13 +60,30 @@ def imported(
 
 def work(folder: Folder, program: Program, decisions: Decisions | None = None, options: Options | None = None) -> None:
     """Works through all rules on a folder that was read, and asks the program."""
+    with without_collection():
+        _work(folder, program, decisions, options)
+
+
+@contextlib.contextmanager
+def without_collection() -> Iterator[None]:
+    """No search for cycles among the many lines of a folder, which have none, for the time of the context."""
+    was_on = gc.isenabled()
+    gc.disable()
+    try:
+        yield
+    finally:
+        if was_on:
+            gc.enable()
+
+
+def _work(folder: Folder, program: Program, decisions: Decisions | None, options: Options | None) -> None:
     folder.decisions = decisions or Decisions()
     folder.takes = is_ignored
     if refuse_same_names(folder):
         return
     options = options or Options()
     apply_drops(folder, guarded(folder, program, options, _excuse))
-    for step in STEPS:
+    for step in counted_off("rules worked through", len(STEPS), STEPS):
         step(folder, options)
     if options.scrub:
         scrub(folder)

@@ -2,7 +2,7 @@
 from __future__ import annotations
 
 from bonsainet.importing.folder import Dialect, Folder, Source, Up, as_number
-from bonsainet.importing.rewriting import begins, cut_lines
+from bonsainet.importing.rewriting import any_begins, begins, cut_lines
 from bonsainet.importing.rule import rule
 from bonsainet.importing.rules.neighbors import peers_of
 from bonsainet.importing.rules.options import Options
@@ -47,13 +47,11 @@ COMPARES = (
 def med(folder: Folder, _options: Options) -> None:
     """Cuts `set metric` where no router compares two metrics."""
     up = folder.up
-    if any(begins(line, COMPARES) for router in folder.routers for line in router.lines if line.is_indented) or any(
-        _has_two(router, up) for router in folder.routers
-    ):
+    if any_begins(folder.routers, COMPARES) or any(_has_two(router, up) for router in folder.routers):
         return
     for router in folder.routers:
         for stanza in router.with_head("route-map"):
-            cut_lines(stanza, folder.log, MED, lambda line: line.words[:2] == ["set", "metric"])
+            cut_lines(stanza, folder.log, MED, lambda line: line.words[:2] == ["set", "metric"], ("set",))
 
 
 def set_order(folder: Folder, _options: Options) -> None:
@@ -92,8 +90,8 @@ def _has_two(router: Source, up: Up) -> bool:
 
 def extra_communities(folder: Folder, _options: Options) -> None:
     """Cuts what sets extended and large communities, and tags, where nothing asks for them."""
-    if any(begins(line, ASKS) for router in folder.routers for line in router.lines if line.is_indented):
+    if any_begins(folder.routers, ASKS):
         return
     for router in folder.routers:
         for stanza in router.with_head("route-map"):
-            cut_lines(stanza, folder.log, EXTENDED, lambda line: begins(line, SETS))
+            cut_lines(stanza, folder.log, EXTENDED, lambda line: begins(line, SETS), ("set",))

@@ -59,9 +59,9 @@ def write_costs(folder: Folder, _options: Options) -> None:
         for stanza in list(router.interfaces):
             if in_area(router, stanza):
                 _write_cost(folder, router, stanza)
-            cut_lines(stanza, folder.log, BANDWIDTH, lambda line: line.words[0] == "bandwidth")
+            cut_lines(stanza, folder.log, BANDWIDTH, lambda line: True, ("bandwidth",))
         for process in router.with_head("router", "ospf"):
-            cut_lines(process, folder.log, COST, lambda line: line.words[0] == "auto-cost")
+            cut_lines(process, folder.log, COST, lambda line: True, ("auto-cost",))
 
 
 def compare_speeds(folder: Folder, _options: Options) -> None:

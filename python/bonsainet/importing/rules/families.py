@@ -4,7 +4,7 @@ from __future__ import annotations
 import functools
 
 from bonsainet.importing.folder import Dialect, Folder, Source, an_address, has
-from bonsainet.importing.rewriting import begins, cut_lines
+from bonsainet.importing.rewriting import begins, cut_lines, first_words
 from bonsainet.importing.rule import rule
 from bonsainet.importing.rules.options import Options
 from bonsainet.configs.text import Line, Stanza
@@ -73,7 +73,7 @@ def _lift(folder: Folder, router: Source, process: Stanza) -> None:
             folder.log.cut([line], OTHER)
     process.body = own + lifted
     if not has(process, "import", "vpn") and not has(process, "import", "vrf"):
-        cut_lines(process, folder.log, VPN_EXPORT, lambda line: begins(line, EXPORTS))
+        cut_lines(process, folder.log, VPN_EXPORT, lambda line: begins(line, EXPORTS), first_words(EXPORTS))
 
 
 def _depth(line: Line) -> int:
@@ -115,7 +115,13 @@ def activate(folder: Folder, _options: Options) -> None:
                     IPV6_PEER,
                     "a neighbour without an IPv4 address can carry IPv4 routes here, and the profile has no such sessions",
                 )
-        cut_lines(process, folder.log, ACTIVATION, functools.partial(_goes, inactive=inactive))
+        cut_lines(
+            process,
+            folder.log,
+            ACTIVATION,
+            functools.partial(_goes, inactive=inactive),
+            ("neighbor", "no", "bgp"),
+        )
 
 
 def _named(process: Stanza, *head: str) -> set[str]:

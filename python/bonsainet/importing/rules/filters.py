@@ -199,9 +199,9 @@ def access_lists(folder: Folder, _options: Options) -> None:
         process = router.process("bgp")
         if process:
             _every_peer(folder, process)
-            rewrite(process, folder.log, lambda line: _distributed(line, name_for))
+            rewrite(process, folder.log, lambda line: _distributed(line, name_for), ("neighbor",))
         for stanza in router.with_head("route-map"):
-            rewrite(stanza, folder.log, lambda line: _matched(line, name_for))
+            rewrite(stanza, folder.log, lambda line: _matched(line, name_for), ("match",))
         for stanzas in made.values():
             router.stanzas += stanzas
 

@@ -2,7 +2,10 @@
 reads them."""
 from __future__ import annotations
 
+import functools
+
 from bonsainet.importing.folder import Folder
+from bonsainet.importing.rewriting import fits
 from bonsainet.importing.rules.options import Options
 from bonsainet.configs.text import Line
 
@@ -56,10 +59,12 @@ MOST = max([*TOP.values(), *INSIDE.values()])
 def refuse_short(folder: Folder, _options: Options) -> None:
     """Refuses lines that have fewer words than their kind."""
     for router in folder.routers:
-        short = [stanza.head for stanza in router.stanzas if _is_short(stanza.head, TOP)]
-        short += [line for stanza in router.stanzas for line in stanza.body if _is_short(line, INSIDE)]
+        short = [stanza.head for stanza in router.stanzas if _is_short(stanza.head, True)]
+        short += [line for stanza in router.stanzas for line in stanza.body if _is_short(line, False)]
         for line in short:
             folder.log.refuse(line, CUT_SHORT, "the line has fewer words than a line of its kind")
+        if not folder.log.refusals:
+            continue
         refused = {found.place: found.name for found in folder.log.refusals}
         gone = {id(line) for line in router.lines if line.place in refused}
         for stanza in [stanza for stanza in router.stanzas if id(stanza.head) in gone]:
@@ -70,14 +75,21 @@ def refuse_short(folder: Folder, _options: Options) -> None:
             stanza.body = [line for line in stanza.body if id(line) not in gone]
 
 
-def _is_short(line: Line, known: dict[str, int]) -> bool:
-    return len(line.words) < MOST and not line.is_blank and len(line.words) < _least(line, known)
+def _is_short(line: Line, is_top: bool) -> bool:
+    count = len(line.words)
+    return (
+        0 < count < MOST
+        and not line.is_blank
+        and any(
+            count < least and fits(line.words, head) for head, least in _by_first_word(is_top).get(line.words[0], ())
+        )
+    )
 
 
-def _least(line: Line, known: dict[str, int]) -> int:
-    """How many words a line of this kind has at least."""
-    words = line.words
-    heads = [" ".join(words[:count]) for count in (1, 2, 3)]
-    if words[0] == "neighbor" and len(words) > 2:
-        heads.append(f"neighbor * {words[2]}")
-    return max((known.get(head, 1) for head in heads), default=1)
+@functools.cache
+def _by_first_word(is_top: bool) -> dict[str, list[tuple[list[str], int]]]:
+    """The kinds of lines by their first word, each with its least number of words."""
+    found: dict[str, list[tuple[list[str], int]]] = {}
+    for head, least in (TOP if is_top else INSIDE).items():
+        found.setdefault(head.split()[0], []).append((head.split(), least))
+    return found

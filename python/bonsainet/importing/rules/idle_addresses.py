@@ -28,7 +28,7 @@ def cut_shared(folder: Folder, _options: Options) -> None:
     for those in holders.values():
         if len(those) > 1 and all(_is_idle(router, stanza) for router, stanza in those):
             for _, stanza in those:
-                cut_lines(stanza, folder.log, IDLE, lambda line: line.words[:2] == ["ip", "address"])
+                cut_lines(stanza, folder.log, IDLE, lambda line: line.words[:2] == ["ip", "address"], ("ip",))
 
 
 def _is_idle(router: Source, stanza: Stanza) -> bool:

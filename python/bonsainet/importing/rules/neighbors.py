@@ -2,9 +2,11 @@
 from __future__ import annotations
 
 import dataclasses
+import functools
 from collections import defaultdict
 from collections.abc import Iterator
-from ipaddress import IPv4Address, IPv4Network
+from ipaddress import IPv4Address, IPv4Interface, IPv4Network
+from operator import itemgetter
 
 from bonsainet.importing.folder import (
     Dialect,
@@ -85,7 +87,11 @@ class Peer:
 
     def line(self, *words: str) -> Line | None:
         """Its first line with these words."""
-        return next((line for line in self.lines if line.words[2 : 2 + len(words)] == list(words)), None)
+        wanted, end = list(words), 2 + len(words)
+        for line in self.lines:
+            if line.words[2:end] == wanted:
+                return line
+        return None
 
     @property
     def is_on_link(self) -> bool:
@@ -122,13 +128,44 @@ def peers_of(router: Source, up: Up | None = None) -> Iterator[Peer]:
     process = router.process("bgp")
     if not process:
         return
-    own = []
-    for stanza in router.interfaces:
-        if found := address_of(stanza):
-            own.append((int(found.network.network_address), int(found.netmask), int(found.ip), stanza))
+    own = _Subnets(router)
+    for name, lines in process.fact(_named_neighbors).items():
+        if address := an_address(name):
+            yield Peer(router, process, address, up.get(address) if up else None, own.of(int(address)), name, lines)
+
+
+class _Subnets:
+    """The subnets of the up interfaces of a router, by their masks."""
+
+    def __init__(self, router: Source) -> None:
+        self.by_mask: dict[int, dict[int, list[tuple[int, int, Stanza]]]] = {}
+        for place, stanza in enumerate(router.interfaces):
+            if found := address_of(stanza):
+                base, mask, own = _numbers_of(found)
+                self.by_mask.setdefault(mask, {}).setdefault(base, []).append((place, own, stanza))
+
+    def of(self, address: int) -> Stanza | None:
+        """The first interface in whose subnet an address is that is not its own."""
+        found = [
+            (place, stanza)
+            for mask, by_base in self.by_mask.items()
+            for place, own, stanza in by_base.get(address & mask, ())
+            if own != address
+        ]
+        return min(found, key=itemgetter(0))[1] if found else None
+
+
+@functools.lru_cache(maxsize=65536)
+def _numbers_of(found: IPv4Interface) -> tuple[int, int, int]:
+    """The network, the mask and the address of an interface as numbers."""
+    return int(found.network.network_address), int(found.netmask), int(found.ip)
+
+
+def _named_neighbors(body: list[Line]) -> dict[str, list[Line]]:
+    """The neighbours that a line of their own names, each with its lines, those with `no` among them."""
     lines: dict[str, list[Line]] = defaultdict(list)
     names: dict[str, None] = {}
-    for line in process.body:
+    for line in body:
         words = line.words
         if words[:1] == ["neighbor"] and len(words) > 1:
             lines[words[1]].append(line)
@@ -136,11 +173,7 @@ def peers_of(router: Source, up: Up | None = None) -> Iterator[Peer]:
                 names[words[1]] = None
         elif words[:2] == ["no", "neighbor"] and len(words) > 2:
             lines[words[2]].append(line)
-    for word in names:
-        if address := an_address(word):
-            at = int(address)
-            near = next((stanza for base, mask, ip, stanza in own if at & mask == base and at != ip), None)
-            yield Peer(router, process, address, (up or {}).get(address), near, word, lines[word])
+    return {name: lines[name] for name in names}
 
 
 def numbers(folder: Folder, _options: Options) -> None:
@@ -149,7 +182,7 @@ def numbers(folder: Folder, _options: Options) -> None:
     for router in folder.routers:
         for process in router.with_head("router", "bgp"):
             _plain_head(folder, process)
-            rewrite(process, folder.log, _plain)
+            rewrite(process, folder.log, _plain, ("neighbor",))
     up = folder.up
     for router in folder.routers:
         for peer in list(peers_of(router, up)):
@@ -201,8 +234,8 @@ def _number(folder: Folder, peer: Peer) -> None:
 
 def leave_out(folder: Folder, peer: Peer, why: Rule) -> None:
     """Leaves out all lines of a neighbour."""
-    lines = peer.lines
-    cut_lines(peer.process, folder.log, why, lambda line: any(line is found for found in lines))
+    lines = set(map(id, peer.lines))
+    cut_lines(peer.process, folder.log, why, lambda line: id(line) in lines)
 
 
 def hops(folder: Folder, _options: Options) -> None:
@@ -272,7 +305,7 @@ def _cut_hops(folder: Folder, process: Stanza, whys: dict[str, Rule]) -> None:
         is_of_session = words[0] == "neighbor" and len(words) > 2 and words[2] in HOPS
         return (whys[words[1]], []) if is_of_session and words[1] in whys else None
 
-    rewrite(process, folder.log, decide)
+    rewrite(process, folder.log, decide, ("neighbor",))
 
 
 def _is_own(peer: Peer, source: str) -> bool:
@@ -290,7 +323,10 @@ def limits(folder: Folder, _options: Options) -> None:
         if process := router.process("bgp"):
             peers = own[id(router)]
             rewrite(
-                process, folder.log, lambda line, router=router, peers=peers: _limit(folder, router, peers, line, count)
+                process,
+                folder.log,
+                lambda line, router=router, peers=peers: _limit(folder, router, peers, line, count),
+                ("neighbor", "no"),
             )
             _cut_passive(folder, list(peers.values()), ends)
             seen: set[str] = set()

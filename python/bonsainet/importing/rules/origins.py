@@ -105,8 +105,8 @@ def _named(folder: Folder) -> dict[IPv4Network, list[Source]]:
     found: dict[IPv4Network, list[Source]] = defaultdict(list)
     for router in folder.routers:
         for process in router.with_head("router", "bgp"):
-            for line in process.body:
-                if line.words[:1] == ["network"] and (prefix := network_of(line)):
+            for line in process.by_word.get("network", ()):
+                if prefix := network_of(line):
                     found[prefix].append(router)
     return found
 
@@ -167,11 +167,9 @@ def mapped(folder: Folder, _options: Options) -> None:
     for router in folder.routers:
         for process in list(router.with_head("router", "bgp")):
             names = dict.fromkeys(
-                line.words[-1]
-                for line in process.body
-                if line.words[:1] == ["network"] and line.words[-2:-1] == ["route-map"]
+                line.words[-1] for line in process.by_word.get("network", ()) if line.words[-2:-1] == ["route-map"]
             )
-            rewrite(process, folder.log, functools.partial(_mapped, folder, router))
+            rewrite(process, folder.log, functools.partial(_mapped, folder, router), ("network",))
             for name in names:
                 filters.leave_out_spent(folder, router, name)
 
@@ -199,7 +197,7 @@ def null_routes(folder: Folder, _options: Options) -> None:
     for router in folder.routers:
         for process in router.with_head("router", "bgp"):
             subnets = {prefix for _, prefix in _subnets(router)}
-            for line in [line for line in process.body if line.words[:1] == ["network"]]:
+            for line in list(process.by_word.get("network", ())):
                 prefix = network_of(line)
                 if prefix and prefix not in subnets:
                     _originate(folder, router, process, line, prefix, taken)
@@ -209,6 +207,7 @@ def null_routes(folder: Folder, _options: Options) -> None:
                 CHECKED,
                 lambda line: line.words[:3] in (["bgp", "network", "import-check"],)
                 or line.words[:4] == ["no", "bgp", "network", "import-check"],
+                ("bgp", "no"),
             )
 
 
@@ -274,11 +273,7 @@ def _taken(folder: Folder) -> set[IPv4Address]:
     taken = set(folder.up)
     for router in folder.routers:
         for process in router.with_head("router", "bgp"):
-            taken |= {
-                address
-                for line in process.body
-                if line.words[:1] == ["neighbor"] and (address := an_address(line.words[1]))
-            }
+            taken |= {address for line in process.by_word.get("neighbor", ()) if (address := an_address(line.words[1]))}
     return taken
 
 

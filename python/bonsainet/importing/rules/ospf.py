@@ -204,7 +204,7 @@ def network_types(folder: Folder, _options: Options) -> None:
             if kind_of(name_of(stanza)) == "Loopback":
                 _loopback(folder, router, stanza)
             _judge_multipoint(folder, router, stanza)
-            cut_lines(stanza, folder.log, TYPE, lambda line: line.words[:3] == ["ip", "ospf", "network"])
+            cut_lines(stanza, folder.log, TYPE, lambda line: line.words[:3] == ["ip", "ospf", "network"], ("ip",))
 
 
 def type_of(stanza: Stanza) -> str:

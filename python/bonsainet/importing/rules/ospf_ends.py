@@ -3,7 +3,7 @@ check of the TTL."""
 from __future__ import annotations
 
 from bonsainet.importing.folder import Folder, Source, address_of, first, has, indented, name_of
-from bonsainet.importing.rewriting import begins, cut_lines
+from bonsainet.importing.rewriting import begins, cut_lines, first_words
 from bonsainet.importing.rule import rule
 from bonsainet.importing.rules.options import Options
 from bonsainet.importing.rules.ospf import Active, active_wires, area_value, covers, is_passive
@@ -70,7 +70,13 @@ def ttl_security(folder: Folder, _options: Options) -> None:
     refused = {found.place for found in folder.log.refusals if found.name == REFUSED}
     for router in folder.routers:
         for stanza in [*router.interfaces, *router.with_head("router", "ospf")]:
-            cut_lines(stanza, folder.log, TTL, lambda line: line.place not in refused and begins(line, TTL_LINES))
+            cut_lines(
+                stanza,
+                folder.log,
+                TTL,
+                lambda line: line.place not in refused and begins(line, TTL_LINES),
+                first_words(TTL_LINES),
+            )
 
 
 def _checks(end: Active) -> Line | None:

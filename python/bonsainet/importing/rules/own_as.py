@@ -131,7 +131,7 @@ def _renumber(
             return OWN, [" ".join([*words[:3], str(fresh[id(other)][1])])]
         return None
 
-    rewrite(process, folder.log, remote)
+    rewrite(process, folder.log, remote, ("neighbor",))
     if id(router) in fresh:
         old, own = fresh[id(router)]
         folder.log.by(process.head, OWN)

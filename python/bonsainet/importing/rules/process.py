@@ -2,7 +2,7 @@
 from __future__ import annotations
 
 from bonsainet.importing.folder import Folder, Source
-from bonsainet.importing.rewriting import begins, cut_lines
+from bonsainet.importing.rewriting import any_begins, begins, cut_lines, first_words
 from bonsainet.importing.rule import rule
 from bonsainet.importing.rules.options import Options
 from bonsainet.importing.rules.redistribution import is_set_aside
@@ -33,24 +33,23 @@ DEFAULT_LINES = (
 )
 
 
+SETS_MED = ("set metric", "default-metric", "set med")
+
+
 def med(folder: Folder, _options: Options) -> None:
     """Cuts how MEDs are compared where nothing sets one."""
-    sets = any(
-        begins(line, ("set metric", "default-metric", "set med"))
-        for router in folder.routers
-        for line in router.lines
-        if line.is_indented
-    )
     given = any(
-        line.words[:1] == ["redistribute"] and "metric" in line.words
+        "metric" in line.words
         for router in folder.routers
-        for line in router.lines
+        for stanza in router.stanzas
+        for line in (stanza.head, *stanza.by_word.get("redistribute", ()))
+        if line.words[:1] == ["redistribute"]
     )
-    if sets or given:
+    if given or any_begins(folder.routers, SETS_MED):
         return
     for router in folder.routers:
         for process in router.with_head("router", "bgp"):
-            cut_lines(process, folder.log, NO_MED, lambda line: begins(line, MED_LINES))
+            cut_lines(process, folder.log, NO_MED, lambda line: begins(line, MED_LINES), first_words(MED_LINES))
 
 
 def defaults(folder: Folder, _options: Options) -> None:
@@ -62,6 +61,7 @@ def defaults(folder: Folder, _options: Options) -> None:
                 folder.log,
                 DEFAULTS,
                 lambda line: begins(line, DEFAULT_LINES) and not folder.takes("bgp", line.text),
+                first_words(DEFAULT_LINES),
             )
 
 
@@ -70,7 +70,7 @@ def distances(folder: Folder, _options: Options) -> None:
     for router in folder.routers:
         for process in router.with_head("router"):
             if not _competes(router):
-                cut_lines(process, folder.log, DISTANCE, _is_plain_distance)
+                cut_lines(process, folder.log, DISTANCE, _is_plain_distance, ("distance",))
 
 
 def _is_plain_distance(line: Line) -> bool:

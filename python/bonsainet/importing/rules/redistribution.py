@@ -2,7 +2,6 @@
 from __future__ import annotations
 
 import functools
-from collections.abc import Iterator
 from ipaddress import IPv4Network
 
 from bonsainet.importing.folder import Folder, Source, a_prefix, address_of, interface_address, network_of
@@ -29,6 +28,8 @@ NO_CLASS = rule(
     "Cisco IOS IP Routing, `ip route`; FRR user guide, static routes",
 )
 DEFAULT_LINES = ("default-information originate", "neighbor * default-originate", "ip default-network")
+TAKES_UP = ("redistribute", "!", "assumed:")
+DEFAULT_WORDS = {"ip", "network", "neighbor", "default-information", "!", "assumed:"}
 MOST_NAMED = 5
 PROTOCOLS = ("ospf", "ospf6", "rip", "ripng", "eigrp", "isis", "bgp", "babel", "openfabric", "odr", "mobile", "lisp")
 
@@ -48,7 +49,8 @@ def behind_connected(folder: Folder, _options: Options) -> None:
         behind = [stanza for stanza in router.with_head("ip", "route") if static_prefix(stanza.head) in subnets]
         for stanza in behind:
             folder.log.cut(stanza.lines, BEHIND)
-        router.stanzas = [stanza for stanza in router.stanzas if all(stanza is not found for found in behind)]
+        if behind:
+            router.stanzas = [stanza for stanza in router.stanzas if all(stanza is not found for found in behind)]
 
 
 def static_routes(folder: Folder, _options: Options) -> None:
@@ -56,7 +58,10 @@ def static_routes(folder: Folder, _options: Options) -> None:
     announced = _announced(folder)
     inside: list[str] = []
     for router in folder.routers:
-        if any(_takes_up(line) for process in router.with_head("router") for line in process.body):
+        processes = list(router.with_head("router"))
+        if any(_takes_up(line) for one in processes for word in TAKES_UP for line in one.by_word.get(word, ())):
+            continue
+        if not any(router.with_head("ip", "route")):
             continue
         kept = []
         for stanza in router.stanzas:
@@ -77,13 +82,14 @@ def static_routes(folder: Folder, _options: Options) -> None:
 def _announced(folder: Folder) -> set[IPv4Network]:
     """The prefixes that routes of BGP or OSPF have: those of `network` lines, and subnets in an area. Where a
     redistribution is left, all that occur."""
-    if any(line.words[:1] == ["redistribute"] for router in folder.routers for line in _process_lines(router)):
+    processes = [process for router in folder.routers for process in router.with_head("router")]
+    if any("redistribute" in process.by_word for process in processes):
         return all_prefixes(folder)
     found = {
         prefix
-        for router in folder.routers
-        for line in _process_lines(router)
-        if line.words[:1] == ["network"] and "area" not in line.words and (prefix := network_of(line))
+        for process in processes
+        for line in process.by_word.get("network", ())
+        if "area" not in line.words and (prefix := network_of(line))
     }
     return found | {
         address.network
@@ -91,10 +97,6 @@ def _announced(folder: Folder) -> set[IPv4Network]:
         for stanza in router.interfaces
         if (address := address_of(stanza)) and in_area(router, stanza)
     }
-
-
-def _process_lines(router: Source) -> Iterator[Line]:
-    return (line for process in router.with_head("router") for line in process.body)
 
 
 def default_routes(folder: Folder, _options: Options) -> None:
@@ -113,7 +115,9 @@ def default_routes(folder: Folder, _options: Options) -> None:
 
 
 def _is_default(stanza: Stanza, line: Line) -> bool:
-    if not any(word in line.text for word in ("route", "default", "0.0.0.0")):
+    if not line.words or line.words[0] not in DEFAULT_WORDS:
+        return False
+    if line.words[0] == "neighbor" and "default-originate" not in line.words:
         return False
     words = [word for word in line.words if word not in ("!", "assumed:")]
     given = line.with_text(" ".join(words))

@@ -15,6 +15,7 @@ DEFAULTS = {
     Dialect.FRR: "FRR denies all by a map or a filter that is not defined, and an undefined list matches nothing",
     Dialect.IOS: "IOS permits all by a filter list that is not defined, and a match of an undefined list holds for every route; of a map it depends on the version",
 }
+OF_NEIGHBOR = {"distribute-list": "access", "route-map": "map", "prefix-list": "prefix"}
 HEADS = {"map": ("route-map",), "prefix": ("ip", "prefix-list"), "community": ("ip", "community-list")}
 
 
@@ -27,25 +28,28 @@ def define(folder: Folder, _options: Options) -> None:
 
 
 def _named(router: Source) -> Iterator[tuple[str, str, Line]]:
+    """The names of lists and maps that neighbours and entries have, each with its kind and its line."""
     for stanza in router.stanzas:
-        for line in stanza.body:
-            words = line.words
-            if stanza.starts("router", "bgp") and words[:1] == ["neighbor"] and len(words) == 5:
-                if words[2] == "distribute-list":
-                    yield "access", words[3], line
-                elif words[2] in ("route-map", "prefix-list"):
-                    yield "map" if words[2] == "route-map" else "prefix", words[3], line
-            elif stanza.starts("route-map") and words[:4] == ["match", "ip", "address", "prefix-list"]:
-                yield from (("prefix", name, line) for name in words[4:])
-            elif (
-                stanza.starts("route-map") and words[:3] == ["match", "ip", "address"] and words[3:4] != ["prefix-len"]
-            ):
-                yield from (("access", name, line) for name in words[3:])
-            elif stanza.starts("route-map") and words[:2] == ["match", "community"]:
-                names = words[2:-1] if words[-1] == "exact-match" else words[2:]
-                yield from (("community", name, line) for name in names)
-            elif stanza.starts("route-map") and words[:2] == ["set", "comm-list"]:
-                yield "community", words[2], line
+        if stanza.starts("route-map"):
+            for line in stanza.body:
+                yield from ((kind, name, line) for kind, name in _named_in_entry(line.words))
+        elif stanza.starts("router", "bgp"):
+            for line in stanza.by_word.get("neighbor", ()):
+                words = line.words
+                if len(words) == 5 and words[2] in OF_NEIGHBOR:
+                    yield OF_NEIGHBOR[words[2]], words[3], line
+
+
+def _named_in_entry(words: list[str]) -> Iterator[tuple[str, str]]:
+    if words[:4] == ["match", "ip", "address", "prefix-list"]:
+        yield from (("prefix", name) for name in words[4:])
+    elif words[:3] == ["match", "ip", "address"] and words[3:4] != ["prefix-len"]:
+        yield from (("access", name) for name in words[3:])
+    elif words[:2] == ["match", "community"]:
+        names = words[2:-1] if words[-1] == "exact-match" else words[2:]
+        yield from (("community", name) for name in names)
+    elif words[:2] == ["set", "comm-list"]:
+        yield "community", words[2]
 
 
 def _is_defined(router: Source, kind: str, name: str) -> bool:

@@ -38,7 +38,7 @@ def cut_vrfs(folder: Folder, _options: Options) -> None:
 def _is_of_vrf(stanza: Stanza) -> bool:
     words = stanza.head.words
     if words[:1] == ["interface"]:
-        return "vrf" in words[2:] or any(line.words[: len(head)] == head for line in stanza.body for head in IN_VRF)
+        return "vrf" in words[2:] or any(has(stanza, *head) for head in IN_VRF)
     if words[:1] == ["router"]:
         return "vrf" in words[2:]
     if words[:2] in (["ip", "route"], ["ip", "mroute"], ["ipv6", "route"]):
@@ -47,8 +47,8 @@ def _is_of_vrf(stanza: Stanza) -> bool:
 
 
 def _refuse_leaks(folder: Folder, stanza: Stanza) -> None:
-    for line in stanza.body:
-        if line.words[:1] == ["export"] and line.words[1:2] in (["ipv4"], ["map"]) and "ipv4" in line.words:
+    for line in stanza.by_word.get("export", ()):
+        if line.words[1:2] in (["ipv4"], ["map"]) and "ipv4" in line.words:
             folder.log.refuse(line, LEAK, "routes of the VRF go into the global table here")
     if stanza.starts("ip", "route") and stanza.head.words[-1] == "global":
         return
@@ -57,8 +57,8 @@ def _refuse_leaks(folder: Folder, stanza: Stanza) -> None:
 
 
 def _refuse_imports(folder: Folder, process: Stanza) -> None:
-    for line in process.body:
-        if line.words[:2] in (["import", "vrf"], ["import", "vpn"]):
+    for line in process.by_word.get("import", ()):
+        if line.words[1:2] in (["vrf"], ["vpn"]):
             folder.log.refuse(line, LEAK, "routes of a VRF or VPN go into the global table here")
 
 
@@ -76,7 +76,8 @@ def _cut_families(folder: Folder, process: Stanza) -> None:
             return True
         return inside
 
-    cut_lines(process, folder.log, VRF, is_cut)
+    if any("vrf" in line.words for line in process.by_word.get("address-family", ())):
+        cut_lines(process, folder.log, VRF, is_cut)
 
 
 def cut_ipv6(folder: Folder, _options: Options) -> None:
@@ -90,7 +91,7 @@ def cut_ipv6(folder: Folder, _options: Options) -> None:
                 kept.append(stanza)
         router.stanzas = kept
         for stanza in router.interfaces:
-            cut_lines(stanza, folder.log, IPV6, _is_ipv6_line)
+            cut_lines(stanza, folder.log, IPV6, _is_ipv6_line, ("ipv6", "no", "ospfv3"))
         _cut_entries(folder, router)
 
 
@@ -110,4 +111,10 @@ def _is_ipv6_line(line: Line) -> bool:
 def _cut_entries(folder: Folder, router: Source) -> None:
     """Cuts lines of IPv6 in route maps that set something for IPv6 routes alone."""
     for stanza in router.with_head("route-map"):
-        cut_lines(stanza, folder.log, IPV6, lambda line: bool(re.match(r"set ipv6 next-hop\b", " ".join(line.words))))
+        cut_lines(
+            stanza,
+            folder.log,
+            IPV6,
+            lambda line: bool(re.match(r"set ipv6 next-hop\b", " ".join(line.words))),
+            ("set",),
+        )

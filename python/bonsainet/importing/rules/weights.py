@@ -33,11 +33,16 @@ def preferences(folder: Folder, _options: Options) -> None:
 
 def _weighs(router: Source, process: Stanza) -> list[Line]:
     """The lines that give a weight: those of neighbours, and those of in maps."""
-    names = {map_of(process, peer, "in") for peer in peers(process)}
-    found = [line for line in process.body if line.words[:1] == ["neighbor"] and line.words[2:3] == ["weight"]]
-    for stanza in router.with_head("route-map"):
-        if stanza.head.words[1:2] and stanza.head.words[1] in names:
-            found += [line for line in stanza.body if line.words[:2] == ["set", "weight"]]
+    found = [line for line in process.by_word.get("neighbor", ()) if line.words[2:3] == ["weight"]]
+    inside = [
+        (stanza.head.words[1], line)
+        for stanza in router.with_head("route-map")
+        for line in stanza.by_word.get("set", ())
+        if line.words[1:2] == ["weight"] and stanza.head.words[1:2]
+    ]
+    if inside:
+        names = {map_of(process, peer, "in") for peer in peers(process)}
+        found += [line for name, line in inside if name in names]
     return found
 
 

@@ -31,7 +31,7 @@ def rename(folder: Folder, _options: Options) -> None:
                     folder.log.by(stanza.head, HELD)
                     stanza.head = stanza.head.with_text(text)
             elif stanza.starts("route-map"):
-                rewrite(stanza, folder.log, lambda line: _set(folder, line, made))
+                rewrite(stanza, folder.log, lambda line: _set(folder, line, made), ("set",))
 
 
 def made_up(folder: Folder) -> dict[str, str]:
