@@ -186,8 +186,13 @@ UNKNOWN = (
     ),
     _of(
         "top",
-        "netconf-yang | call-home | event | flow | key | memory | no platform | ip tacacs | ip device | subscriber | switch | system",
+        "netconf-yang | call-home | flow | key | memory | no platform | ip tacacs | ip device | subscriber | switch | system",
         "management makes no route: it may go",
+    ),
+    _of(
+        "top",
+        "event",
+        "an applet that enters `configure` can shut interfaces and change routes: `tools/bonsai-import` refuses it, and leaves the others out",
     ),
     _of(
         "top",
@@ -212,6 +217,11 @@ UNKNOWN = (
     _of("router bgp", "exit-address-family", f"lift the family into the process. {IMPORT}"),
     _of("router bgp", "template | exit-peer-session | exit-peer-policy | inherit", f"unfold the template. {IMPORT}"),
     _of("router bgp", "advertise-all-vni", "it belongs to a family other than IPv4: cut the family whole"),
+    _of(
+        "router ospf",
+        "mpls ldp sync | mpls ldp-sync",
+        "the cost of a link whose other end runs no LDP stays at its maximum (RFC 5443): it may go where both ends run LDP",
+    ),
     _of("router ospf", "nsf | bfd | ispf | mpls ldp", "timers, restarts and labels make no route: it may go"),
 )
 OTHER = f"compare it with the vendor's reference. Where it makes no route, take it out by a decision of `tools/bonsai-import`, which keeps the reason; else: {ELSE}"

@@ -5,6 +5,7 @@ from collections.abc import Callable
 
 from bonsainet.importing.folder import Folder
 from bonsainet.importing.rules import (
+    applets,
     areas,
     attributes,
     carried,
@@ -31,6 +32,7 @@ from bonsainet.importing.rules import (
     undefined,
     virtual,
     vlans,
+    waiting,
     weights,
     well_known,
 )
@@ -41,6 +43,7 @@ Step = Callable[[Folder, Options], None]
 STEPS: tuple[Step, ...] = (
     frr.heads,
     forms.refuse_short,
+    applets.judge,
     interfaces.below_shut,
     virtual.cut_vrfs,
     virtual.cut_ipv6,
@@ -63,6 +66,7 @@ STEPS: tuple[Step, ...] = (
     neighbors.hops,
     stubs.add,
     hold_times.judge,
+    waiting.strict_sessions,
     identifiers.of_bgp,
     redistribution.default_routes,
     filters.prefix_list_forms,
@@ -90,6 +94,7 @@ STEPS: tuple[Step, ...] = (
     costs.write_costs,
     ospf_ends.area_authentication,
     ospf_ends.ttl_security,
+    waiting.synchronized,
     ospf.network_types,
     interfaces.heads,
     ospf.one_area,

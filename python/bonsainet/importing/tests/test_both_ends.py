@@ -119,12 +119,8 @@ def test_the_check_of_the_ttl(near: str, far: str, is_refused: bool, tmp_path: P
     assert refused(found) == ({"ttl-security"} if is_refused else set()), found.text
 
 
-@pytest.mark.parametrize(
-    "lines", [" neighbor 172.16.0.2 bfd strict\n", " neighbor 172.16.0.2 fall-over bfd strict-mode\n"]
-)
-def test_a_session_that_waits_for_bfd(lines: str, tmp_path: Path, program: Program) -> None:
-    is_known = "fall-over" in lines
-    assert refused(report(tmp_path, program, (A_BGP + lines, B_BGP))) == (set() if is_known else {"program"})
+def test_a_session_of_frr_that_waits_for_bfd(tmp_path: Path, program: Program) -> None:
+    assert refused(report(tmp_path, program, (A_BGP + " neighbor 172.16.0.2 bfd strict\n", B_BGP))) == {"program"}
 
 
 def test_an_adjacency_that_waits_for_bfd(tmp_path: Path, program: Program) -> None:
