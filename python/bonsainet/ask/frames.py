@@ -7,7 +7,7 @@ import re
 from collections.abc import Iterator, Sequence
 from typing import IO
 
-from bonsainet.ask.program import ALL, NOT_ALL, Answer, NotAnswered, Status, named
+from bonsainet.ask.program import ALL, IS_DONE, Answer, NotAnswered, Status, named
 from bonsainet.ask.shares import processors, ranges, side_by_side
 
 HEAD = re.compile(rb"class (\d{1,9}) (\d{1,3}) (\d{1,18})\n")
@@ -52,19 +52,29 @@ def frames_in(stream: IO[bytes]) -> Iterator[Frame]:
         yield Frame(number, status, written)
 
 
+def _frames_of_all(answer: Answer, numbers: range) -> list[Frame] | None:
+    """The frames of an output, none where it does not have one for each of these classes."""
+    try:
+        found = list(frames_in(io.BytesIO(answer.out)))
+    except ValueError:
+        return None
+    return found if [frame.number for frame in found] == list(numbers) else None
+
+
 def frames_of(text: str | bytes, commands: Sequence[str], numbers: Sequence[int]) -> Iterator[tuple[Frame, ...]]:
     """For each of these classes, ascending, a frame of each command. Processes share the classes, each by a range.
     NotAnswered where the program ends otherwise than by its work."""
     program = named(ALL)
 
     def asked(part: tuple[int, int]) -> list[tuple[Frame, ...]]:
-        first, last = map(str, part)
+        first, last = part
         made = []
         for command in commands:
-            answer: Answer = program.ask("F", command, first, last, texts={"F": text})
-            if answer.status not in (Status.DONE, NOT_ALL):
+            answer: Answer = program.ask("F", command, str(first), str(last), texts={"F": text})
+            whole = _frames_of_all(answer, range(first, last + 1)) if answer.status in IS_DONE else None
+            if whole is None:
                 raise NotAnswered(answer, f"{command} of classes {first} to {last}", ALL)
-            made.append(frames_in(io.BytesIO(answer.out)))
+            made.append(whole)
         return list(zip(*made, strict=True))
 
     jobs = processors()

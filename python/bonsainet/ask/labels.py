@@ -66,7 +66,7 @@ def solution_text(labels: Mapping[str, Label]) -> str:
 
 
 def read_solution(text: str) -> dict[str, Label]:
-    """The labels of a solution that the program wrote or accepts."""
+    """The labels of a solution that the program wrote or accepts. ValueError where a line is of no form."""
     return {words[0]: _label(words[1:]) for words in map(str.split, text.splitlines()) if words}
 
 
@@ -79,5 +79,7 @@ def _label(words: list[str]) -> Label:
             runs = (piece.partition("*") for piece in rest[:at])
             path = tuple(int(number) for number, _, count in runs for _ in range(int(count or 1)))
             return BgpLabel(int(preference), path, tuple(map(community, rest[at + 1 :])))
-        case _:
+        case ["none"]:
             return None
+        case _:
+            raise ValueError(f"no label: {' '.join(words)}")

@@ -15,15 +15,14 @@ import re
 import shutil
 import subprocess
 import sys
-import tempfile
 from collections.abc import Collection, Iterable, Iterator, Mapping
 from itertools import takewhile
 from pathlib import Path
 from typing import IO, BinaryIO
 
-from bonsainet.ask.running import of_this_thread, ran
+from bonsainet.ask.running import ending_with_caller, must_start, of_this_thread, ran
 from bonsainet.ask.shares import side_by_side
-from bonsainet.ask.where import Identity, identity_of, is_file_of_one, named_by, without_notices
+from bonsainet.ask.where import Identity, NoProgram, identity_of, is_file_of_one, named_by, without_notices
 
 TOP = Path(__file__).resolve().parents[3]
 LOWEST = 3
@@ -81,9 +80,9 @@ class NotAnswered(Exception):
 
 @dataclasses.dataclass(frozen=True)
 class Refusal:
-    """A refusal at a line of a text: its line from 1 and its kind."""
+    """A refusal of a text: its kind, and its line from 1, or none where the text as a whole is refused."""
 
-    line: int
+    line: int | None
     kind: str
 
 
@@ -126,6 +125,7 @@ class Program:
     """
 
     def __init__(self, path: str | None = None, name: str = BONSAI) -> None:
+        self.name = name
         here, variable = TOP / name, f"{name.upper().replace('-', '_')}_PROGRAM"
         self.launcher = None if path else str(here) if here.is_file() else shutil.which(name)
         found = path or (None if self.launcher else os.environ.get(variable))
@@ -149,13 +149,20 @@ class Program:
         """The program as one file that runs alone. None where there is none."""
         return Path(self.path) if is_file_of_one(self.path) else None
 
+    def _start(self) -> list[str]:
+        """How it is started. A question, or all classes, may take for ever: such a program ends where its caller is killed."""
+        if self.name == BONSAI or not ending_with_caller():
+            return [self.path]
+        must_start(self.path)
+        return [*ending_with_caller(), self.path]
+
     def ask(self, *words: str, texts: Mapping[str, str | bytes] | None = None, seconds: float | None = None) -> Answer:
         """Runs a command. The first word that is a key of `texts` names a file with that text, in memory and made for this
         call alone; further ones are words, as a router may have the name. TimeoutExpired after so many seconds."""
         with contextlib.ExitStack() as room:
             files = {name: room.enter_context(_in_memory(text)) for name, text in (texts or {}).items()}
             places = {name: f"/proc/self/fd/{file.fileno()}" for name, file in files.items()}
-            asked = [self.path, *with_places(words, places)]
+            asked = [*self._start(), *with_places(words, places)]
             done = ran(asked, [file.fileno() for file in files.values()], seconds)
         err = without_notices(done.stderr)
         for name, place in sorted(places.items(), key=lambda item: -len(item[1])):
@@ -166,14 +173,14 @@ class Program:
     def output(
         self, *words: str, texts: Mapping[str, str | bytes] | None = None, done: Collection[int] = (Status.DONE,)
     ) -> Iterator[IO[bytes]]:
-        """The output of a command while it is written; words are as for `ask`. The command is ended where it is not read to its end. NotAnswered
-        where it ends with a status that is not in `done`."""
+        """The output of a command while it is written; words are as for `ask`. The command is ended where it is not read to
+        its end. NotAnswered where it ends with a status that is not in `done`."""
         with contextlib.ExitStack() as room:
             files = {name: room.enter_context(_in_memory(text)) for name, text in (texts or {}).items()}
             places = {name: f"/proc/self/fd/{file.fileno()}" for name, file in files.items()}
-            told = room.enter_context(tempfile.TemporaryFile())
+            told = room.enter_context(_in_memory(b""))
             process = subprocess.Popen(
-                [self.path, *with_places(words, places)],
+                [*self._start(), *with_places(words, places)],
                 stdin=subprocess.DEVNULL,
                 stdout=subprocess.PIPE,
                 stderr=told,
@@ -184,7 +191,9 @@ class Program:
             room.callback(process.kill)
             assert process.stdout
             yield process.stdout
-            if not process.stdout.read(1) and process.wait() not in done:
+            # (where it is not read to its end, nobody waits for more of it)
+            os.set_blocking(process.stdout.fileno(), False)
+            if process.stdout.read(1) == b"" and process.wait() not in done:
                 told.seek(0)
                 raise NotAnswered(Answer(process.returncode, b"", without_notices(told.read())), " ".join(words[:1]))
 
@@ -196,8 +205,7 @@ class Program:
         return answer.text
 
     def refusal(self, text: str | bytes) -> Refusal | None:
-        """The refusal of a text by `classes`, or none where it is read. NotAnswered where the program could not
-        judge."""
+        """The refusal of a text by `classes`, or none where it is read. NotAnswered where the program could not judge."""
         answer = self.ask("classes", "F", texts={"F": text})
         if answer.status == Status.DONE:
             return None
@@ -232,7 +240,8 @@ class Program:
 def named(name: str) -> Program:
     """The program of a name, which is found once, and not by each thread that asks it."""
     made = Program(name=name)
-    assert made.path
+    if not made.path:
+        raise NoProgram(f"no program {name}")
     return made
 
 
@@ -251,19 +260,32 @@ def with_places(words: Iterable[str], places: Mapping[str, str]) -> list[str]:
 
 
 def _in_memory(text: str | bytes) -> BinaryIO:
-    """A file without a place on disk, so that nothing stays where a tool is killed. Its number is none of a standard stream, be that closed."""
+    """A file without a place on disk, so that nothing stays where a tool is killed. Its number is none of a standard stream,
+    be that closed."""
     first = os.memfd_create("bonsai")
-    file = os.fdopen(fcntl.fcntl(first, fcntl.F_DUPFD_CLOEXEC, LOWEST), "wb")
-    os.close(first)
-    file.write(text.encode("utf-8", "surrogateescape") if isinstance(text, str) else text)
+    try:
+        file = os.fdopen(fcntl.fcntl(first, fcntl.F_DUPFD_CLOEXEC, LOWEST), "w+b")
+    finally:
+        os.close(first)
+    file.write(bytes_of(text) if isinstance(text, str) else text)
     file.flush()
     return file
 
 
+def bytes_of(text: str) -> bytes:
+    """The bytes of a text: those that were read where it was read from a file, and some that no text has for what is none."""
+    try:
+        return text.encode("utf-8", "surrogateescape")
+    except UnicodeEncodeError:
+        return text.encode("utf-8", "surrogatepass")
+
+
 def refusal_of(answer: Answer) -> Refusal | None:
-    """The refusal at a line of a text, if an answer is one."""
-    found = re.fullmatch(r"refused: line (\d+): (\w+)", answer.reason)
-    return Refusal(int(found[1]), found[2]) if found and answer.status == Status.REFUSED else None
+    """The refusal of a text, if an answer is one."""
+    found = re.fullmatch(r"refused: (?:line (\d+): )?(\w+)", answer.reason)
+    if not found or answer.status != Status.REFUSED:
+        return None
+    return Refusal(int(found[1]) if found[1] else None, found[2])
 
 
 def classes_of(text: str) -> list[Class]:
@@ -303,5 +325,9 @@ def report_of(text: str) -> tuple[Size, list[Group]]:
 
 
 def sizes_of(text: str) -> list[Size]:
-    """The sizes that `summary` or `trial` wrote."""
-    return [Size(*map(int, re.findall(r"\d+", line))) for line in text.splitlines()]
+    """The sizes that `summary` or `trial` wrote. ValueError where a line is of no form."""
+    form = re.compile(r"class (\d+): (\d+) routers (\d+) links (\d+) groups (\d+) links")
+    found = [form.fullmatch(line) for line in text.splitlines()]
+    if not all(found):
+        raise ValueError("a line has no sizes")
+    return [Size(*map(int, of_class.groups())) for of_class in found if of_class]

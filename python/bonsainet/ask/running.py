@@ -2,6 +2,10 @@
 from __future__ import annotations
 
 import contextlib
+import errno
+import functools
+import os
+import shutil
 import subprocess
 import threading
 from collections.abc import Callable, Iterator
@@ -47,6 +51,20 @@ def of_this_thread() -> Running:
     """The processes among which this thread starts its own."""
     found: Running = getattr(_HERE, "running", None) or Running()
     return found
+
+
+@functools.cache
+def ending_with_caller() -> tuple[str, ...]:
+    """What is put before a command so that it ends where this process is killed, if the system has the program for it."""
+    found = shutil.which("setpriv")
+    return (found, "--pdeathsig", "KILL") if found else ()
+
+
+def must_start(program: str) -> None:
+    """OSError with its name where a program cannot be started, as where it is started by itself."""
+    if shutil.which(program) is None:
+        fault = errno.EACCES if os.path.exists(program) else errno.ENOENT
+        raise OSError(fault, os.strerror(fault), program)
 
 
 def ran(words: list[str], files: list[int], seconds: float | None = None) -> subprocess.CompletedProcess[bytes]:

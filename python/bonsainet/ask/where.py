@@ -101,6 +101,8 @@ def named_by(launcher: str) -> str:
 
 def _note(text: str) -> None:
     """Writes a notice to standard error. Where that does not take it, the answer is as good."""
+    if sys.stderr is None:
+        return
     try:
         os.write(sys.stderr.fileno(), text.encode("utf-8", "surrogateescape"))
     except io.UnsupportedOperation:

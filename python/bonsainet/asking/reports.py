@@ -171,9 +171,11 @@ def _failing(reader: _Reader) -> Failing | None:
 
 def forwards_of(lines: Iterable[str]) -> dict[str, tuple[str, ...] | None]:
     """To whom each router forwards, by the lines of `forwards`: nobody where it holds its own route, and none where it has
-    no route."""
+    no route. ValueError where a line is of no form."""
     found: dict[str, tuple[str, ...] | None] = {}
     for line in lines:
         name, kind, *nexts = line.split()
+        if kind not in ("none", "here", "to") or bool(nexts) != (kind == "to"):
+            raise ValueError(f"bonsai-ask wrote a line of no known form: {line!r}")
         found[name] = None if kind == "none" else tuple(nexts)
     return found

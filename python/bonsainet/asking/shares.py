@@ -103,9 +103,15 @@ def _by_ranges(
             answer = program.ask(*given, texts=texts, seconds=left)
         except subprocess.TimeoutExpired:
             return None
+        asked_for = f"{name} of classes {_word(part)}"
         if answer.status not in IS_DONE:
-            raise NotAnswered(answer, f"{name} of classes {_word(part)}", ASK)
-        return reports_of(answer.text)
+            raise NotAnswered(answer, asked_for, ASK)
+        try:
+            if not answer.out.endswith(b"\n"):
+                raise ValueError("bonsai-ask ended within a line")
+            return reports_of(answer.text)
+        except ValueError as fault:
+            raise NotAnswered(dataclasses.replace(answer, err=str(fault).encode()), asked_for, ASK) from None
 
     few = len(numbers) <= FEW_CLASSES // RANGES_EACH
     asked_of = ranges(numbers, 1 if few else processors() * RANGES_EACH)

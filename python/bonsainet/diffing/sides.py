@@ -14,7 +14,6 @@ from pathlib import Path
 from bonsainet.cli.command_line import Refused, printable, read_input
 from bonsainet.cli.words import counted
 from bonsainet.cli.workers import workers
-from bonsainet.configs.text import text_of
 from bonsainet.diffing import git
 from bonsainet.importing.decisions import Decisions, decisions_in, read_decisions
 from bonsainet.importing.rules.options import Options
@@ -109,7 +108,7 @@ def networks_at(
     """Both networks. Of two folders the second is imported by a process of its own at the same time; where that fails, it is
     imported here, which says what is refused."""
     # (the program is found once, and says once if it is not proved)
-    assert program(BONSAI).path
+    program(BONSAI)
     works = [functools.partial(network_at, side, each, own_as) for side, each in zip(sides, decisions)]
     if not all(side.revision is not None or os.path.isdir(side.path) for side in sides):
         return works[0](), works[1]()
@@ -145,10 +144,7 @@ def _text(raw: bytes, name: str) -> Network:
 def _imported(folder: str, name: str, decisions: Place | None, own_as: bool) -> Network:
     """The network of a folder."""
     made = _decisions(decisions) if decisions else None
-    report = import_folder(folder, program(BONSAI), made, Options.of(own_as, [], False))
-    if report.folder.log.refusals:
-        raise ImportRefused(name, report)
-    return Network(text_of(report.folder.routers), name, report)
+    return Network.of_import(import_folder(folder, program(BONSAI), made, Options.of(own_as, [], False)), name)
 
 
 def _decisions(place: Place) -> Decisions:

@@ -67,6 +67,10 @@ def _of_network(folder: Folder, program: Program) -> None:
     found = program.refusal(text_of(folder.routers))
     if found:
         lines: list[Line | None] = [line for router in folder.routers for line in [*router.lines, None]]
+        if found.line is None:
+            why = f"the program refuses the network as a whole: {found.kind}"
+            folder.log.refuse(_first(folder.routers[0]), PROGRAM, why, found.kind)
+            return
         line = lines[found.line - 1] if found.line <= len(lines) else None
         own = line or _first(folder.routers[-1])
         scope = scope_under(_opener(folder, own))
@@ -86,7 +90,7 @@ def _opener(folder: Folder, line: Line) -> str | None:
     return next((stanza.head.text for stanza in stanzas if any(line is found for found in stanza.body)), None)
 
 
-def _line_at(stanzas: list[Stanza], number: int) -> tuple[Line | None, Stanza | None]:
+def _line_at(stanzas: list[Stanza], number: int | None) -> tuple[Line | None, Stanza | None]:
     at = 0
     for stanza in stanzas:
         for line in stanza.lines:

@@ -22,12 +22,14 @@ class Silent(Refused):
     """A line changed and no rule says why: a fault of the tool."""
 
 
-@dataclasses.dataclass
+@dataclasses.dataclass(frozen=True)
 class Report:
-    """What the import came to."""
+    """What the import of a folder came to. `changes` are the lines that did not reach the text unchanged: of each its
+    `place`, which has `file` and `line`, the line `before`, the lines `after`, none where it was left out, the name of the
+    `rule`, and its `reason`. `folder` has the routers as they are at the end."""
 
-    changes: list[Change]
-    folder: Folder
+    changes: tuple[Change, ...]
+    folder: Folder = dataclasses.field(repr=False)
     program: Identity | None = None
     is_scrubbed: bool = False
 
@@ -39,7 +41,8 @@ class Report:
 
     @property
     def refused(self) -> list[Refusal]:
-        """The refusals with the lines as they stand in the folder, which patterns of decisions are compared with."""
+        """The lines that are left to a person, as they are in the folder: of each its `place`, its `text`, and the
+        `reason`."""
         return [self._as_read(found) for found in self.folder.log.refusals]
 
     def _as_read(self, found: Refusal) -> Refusal:
@@ -73,7 +76,8 @@ class Report:
 
     @property
     def text(self) -> str:
-        """The report as text. What a terminal would obey, as lines and names of files can have it, is told by its number."""
+        """The whole report as text. What a terminal would obey, as lines and names of files can have it, is written as its
+        number."""
         log, unused = self.folder.log, self.folder.own_decisions.unused
         parts: list[tuple[str, list[list[str]]]] = [
             (
@@ -157,7 +161,7 @@ def report_of(folder: Folder) -> Report:
                 "; ".join(found.reason for found in rules),
             )
         )
-    return Report([change for change in changes if change.rule], folder)
+    return Report(tuple(change for change in changes if change.rule), folder)
 
 
 def place_text(place: Place) -> str:

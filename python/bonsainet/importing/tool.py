@@ -3,6 +3,7 @@ from __future__ import annotations
 
 import argparse
 import contextlib
+import dataclasses
 import gc
 import json
 import os
@@ -53,9 +54,7 @@ def imported(
 ) -> Report:
     """Works through all rules on a folder that was read, asks the program, and reports what changed."""
     work(folder, program, decisions, options)
-    report = report_of(folder)
-    report.is_scrubbed = bool(options and options.scrub)
-    return report
+    return dataclasses.replace(report_of(folder), is_scrubbed=bool(options and options.scrub))
 
 
 def work(folder: Folder, program: Program, decisions: Decisions | None = None, options: Options | None = None) -> None:
@@ -175,8 +174,7 @@ def _imported_by(words: argparse.Namespace) -> Report:
         decisions,
         Options.of(words.own_as, words.stub, words.scrub, words.area),
     )
-    report.program = program.identity
-    return report
+    return dataclasses.replace(report, program=program.identity)
 
 
 def main(argv: list[str] | None = None) -> int:

@@ -3,10 +3,20 @@
 `import bonsainet` gives all of its names.
 """
 from bonsainet.ask.labels import BgpLabel, OspfLabel
-from bonsainet.library.answers import Answer, Loss, Reply, Tie
-from bonsainet.library.changes import Change, Difference, Kind, PrefixChange, diff
+from bonsainet.importing.report import Report
+from bonsainet.library.answers import Answer, Labels, Loss, Reply, Tie
+from bonsainet.library.changes import Change, Difference, Kind, PrefixChange, Side, diff
 from bonsainet.library.classes import DestClass, Group, Size
-from bonsainet.library.errors import BonsaiError, ClassNotFound, ImportRefused, ProgramFailed, TextRefused, WordsRefused
+from bonsainet.library.errors import (
+    BonsaiError,
+    ClassNotFound,
+    FolderRefused,
+    ImportRefused,
+    NotStable,
+    ProgramFailed,
+    TextRefused,
+    WordsRefused,
+)
 from bonsainet.library.networks import Network
 from bonsainet.library.questions import AllQuestions, Questions
 from bonsainet.library.routes import Aspect, Route
@@ -21,17 +31,22 @@ __all__ = [
     "ClassNotFound",
     "DestClass",
     "Difference",
+    "FolderRefused",
     "Group",
     "ImportRefused",
     "Kind",
+    "Labels",
     "Loss",
     "Network",
+    "NotStable",
     "OspfLabel",
     "PrefixChange",
     "ProgramFailed",
     "Questions",
     "Reply",
+    "Report",
     "Route",
+    "Side",
     "Size",
     "TextRefused",
     "Tie",

@@ -2,11 +2,34 @@
 from __future__ import annotations
 
 import dataclasses
+from collections.abc import Iterator, Mapping
 
 from bonsainet.ask.labels import Label, read_solution
 from bonsainet.asking.reports import ClassAnswer, Loss, Tie
 
-__all__ = ["Answer", "Loss", "Reply", "Tie"]
+__all__ = ["Answer", "Labels", "Loss", "Reply", "Tie"]
+
+
+class Labels(Mapping[str, Label]):
+    """For each router its label, a BgpLabel or an OspfLabel, or none. Nobody changes it; `dict(labels)` can be changed."""
+
+    def __init__(self, labels: Mapping[str, Label]) -> None:
+        self._labels = dict(labels)
+
+    def __getitem__(self, router: str) -> Label:
+        return self._labels[router]
+
+    def __iter__(self) -> Iterator[str]:
+        return iter(self._labels)
+
+    def __len__(self) -> int:
+        return len(self._labels)
+
+    def __hash__(self) -> int:
+        return hash(frozenset(self._labels.items()))
+
+    def __repr__(self) -> str:
+        return f"Labels({self._labels})"
 
 
 @dataclasses.dataclass(frozen=True)
@@ -24,7 +47,7 @@ class Answer:
     words: tuple[str, ...]
     verdict: str
     tied: Tie | None = None
-    counterexample: dict[str, Label] | None = None
+    counterexample: Labels | None = None
     losses: tuple[Loss, ...] = ()
     tried: int | None = None
     tied_losses: int = 0
@@ -37,7 +60,7 @@ class Answer:
             question,
             said.verdict,
             said.tie,
-            read_solution("\n".join(said.labels)) if said.labels else None,
+            Labels(read_solution("\n".join(said.labels))) if said.labels else None,
             said.failing.losses if said.failing else (),
             said.failing.tried if said.failing else None,
             said.failing.tied if said.failing else 0,

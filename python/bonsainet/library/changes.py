@@ -6,7 +6,7 @@ import enum
 from collections.abc import Collection
 
 from bonsainet.asking.reports import Tie
-from bonsainet.library.errors import WordsRefused
+from bonsainet.library.errors import TextRefused
 from bonsainet.library.networks import Network
 from bonsainet.library.routes import Aspect, Near, Routes, near_interfaces, routes_of
 from bonsainet.library.states import Held, State, states_of
@@ -84,7 +84,7 @@ class Difference:
     partly: tuple[str, ...] = ()
 
     def __bool__(self) -> bool:
-        """Whether anything changes."""
+        """Whether routes change, or may: whether there is a change of a prefix."""
         return bool(self.changed)
 
 
@@ -153,7 +153,7 @@ def _has_one_canon(old: Network, new: Network, pair: tuple[int, int]) -> bool:
     """Whether the classes have the same compressed network with canonical maps, so that they have the same labels."""
     try:
         before, after = (network.class_of(number).canon().text for network, number in zip((old, new), pair))
-    except WordsRefused:
+    except TextRefused:
         return False
     return before == after
 

@@ -4,39 +4,56 @@ from __future__ import annotations
 import dataclasses
 import functools
 import os
+import re
 from collections.abc import Iterable, Iterator
 from ipaddress import IPv4Address, IPv4Network
 from pathlib import Path
 from typing import TYPE_CHECKING, Any, Literal
 
-from bonsainet.ask.accepted import class_with
 from bonsainet.ask.frames import Frame, frames_of
-from bonsainet.ask.program import ASK, BONSAI, IS_DONE, Group, classes_of, groups_of, sizes_of
+from bonsainet.ask.program import (
+    ASK,
+    BONSAI,
+    IS_DONE,
+    Group,
+    NotAnswered,
+    Status,
+    bytes_of,
+    classes_of,
+    groups_of,
+    sizes_of,
+)
+from bonsainet.ask.program import Answer as Said
 from bonsainet.asking.questions import questions_of
+from bonsainet.cli.command_line import Refused
 from bonsainet.asking.reports import ClassAnswer, Count, Part, reports_of
 from bonsainet.configs.network import Network as Parsed
 from bonsainet.configs.network import read_network
 from bonsainet.configs.profile import device_of
 from bonsainet.configs.text import text_of
-from bonsainet.importing.decisions import Decisions, decisions_in
+from bonsainet.importing.decisions import decisions_in
 from bonsainet.importing.report import Report
 from bonsainet.importing.rules.options import Options
 from bonsainet.importing.tool import import_folder
 from bonsainet.library.answers import Answer, Reply
-from bonsainet.library.calls import call, errors_of, program
+from bonsainet.library.calls import call, errors_of, program, read
 from bonsainet.library.classes import DestClass
-from bonsainet.library.errors import ClassNotFound, ImportRefused
-from bonsainet.library.questions import AllQuestions
+from bonsainet.library.errors import ClassNotFound, FolderRefused, ImportRefused, ProgramFailed, error_of
+from bonsainet.library.questions import AllQuestions, names_of
 
 if TYPE_CHECKING:
     import pandas
 
 FilePath = str | os.PathLike[str]
+LONGEST_PREFIX = 32
+COLUMNS = ["class", "prefixes", "origins", "routers", "links", "groups", "group_links"]
+NUMBER = re.compile(r"[1-9][0-9]{0,9}")
 
 
 @dataclasses.dataclass(frozen=True)
 class Network:
-    """The network of a text. `name` is what errors call it, and `report` says what an import changed, by file and line."""
+    """The network of a text. `name` is what errors call it, and `report` says what an import changed, by file and line.
+    Made with a text alone, the network is not judged before something is asked; `from_text` judges it at once."""
 
     text: str = dataclasses.field(repr=False)
     name: str = "text"
@@ -46,12 +63,12 @@ class Network:
     def from_text(cls, text: str, name: str = "text") -> Network:
         """The network of a text. TextRefused where the program does not accept it."""
         made = cls(text, name)
-        assert made.classes is not None
+        _ = made.classes
         return made
 
     @classmethod
     def from_file(cls, path: FilePath) -> Network:
-        """The network of a file. TextRefused where the program does not accept it."""
+        """The network of a file. TextRefused where the program does not accept it, OSError where it cannot be read."""
         return cls.from_text(Path(path).read_bytes().decode("ascii", "surrogateescape"), os.fspath(path))
 
     @classmethod
@@ -60,23 +77,38 @@ class Network:
     ) -> Network:
         """The network of a folder of running configurations. `decisions` is a file of decisions, `own_as` gives each
         router of a shared AS number a number of its own, and `stubs` are routers to add, as `PEER=PREFIX,..`.
-        ImportRefused where lines are left to a person."""
-        made: Decisions | None = None
-        if decisions is not None:
-            made = decisions_in(os.fspath(decisions))
-        report = import_folder(os.fspath(path), program(BONSAI), made, Options.of(own_as, list(stubs), False))
+        ImportRefused where lines are left to a person, FolderRefused where the folder, decisions or stubs are not of their
+        form, OSError where a file cannot be read."""
+        name, made, asked = os.fspath(path), None, program(BONSAI)
+        try:
+            if decisions is not None:
+                made = decisions_in(os.fspath(decisions))
+            report = import_folder(name, asked, made, Options.of(own_as, list(names_of(stubs)), False))
+        except Refused as fault:
+            raise FolderRefused(str(fault), tuple(fault.details)) from fault
+        except NotAnswered as fault:
+            raise error_of(fault.answer, name, "") from fault
+        except OSError as fault:
+            if fault.filename != asked.path:
+                raise
+            raise ProgramFailed(Status.NO_PROGRAM, str(fault)) from fault
+        return cls.of_import(report, name)
+
+    @classmethod
+    def of_import(cls, report: Report, name: str) -> Network:
+        """The network that an import came to. ImportRefused where lines are left to a person."""
         if report.folder.log.refusals:
-            raise ImportRefused(os.fspath(path), report)
-        return cls(text_of(report.folder.routers), os.fspath(path), report)
+            raise ImportRefused(name, report)
+        return cls(text_of(report.folder.routers), name, report)
 
     def write(self, path: FilePath) -> None:
-        """Writes the text to a file."""
+        """Writes the text to a file. OSError where that cannot be written."""
         Path(path).write_bytes(self.raw)
 
     @functools.cached_property
     def raw(self) -> bytes:
         """The bytes of the text."""
-        return self.text.encode("ascii", "surrogateescape")
+        return bytes_of(self.text)
 
     @functools.cached_property
     def parsed(self) -> Parsed:
@@ -94,8 +126,15 @@ class Network:
     @functools.cached_property
     def classes(self) -> tuple[DestClass, ...]:
         """The classes of destination prefixes, in order."""
-        said = call(BONSAI, ["classes", "F"], self.text, self.name).text
-        return tuple(DestClass.of(self, found) for found in classes_of(said))
+        said = call(BONSAI, ["classes", "F"], self.text, self.name)
+        made = tuple(DestClass.of(self, found) for found in read(classes_of, said))
+        if [found.number for found in made] != list(range(1, len(made) + 1)):
+            raise ProgramFailed(said.status, "the program did not count the classes from 1")
+        return made
+
+    @functools.cached_property
+    def _by_prefix(self) -> dict[IPv4Network, DestClass]:
+        return {IPv4Network(prefix): found for found in self.classes for prefix in found.prefixes}
 
     @property
     def ask(self) -> AllQuestions:
@@ -106,25 +145,26 @@ class Network:
         """The same questions with routers `A` and links `A:B` down."""
         return AllQuestions(self, down)
 
-    def failing(self, what: Literal["links", "routers"]) -> AllQuestions:
-        """The same questions, each asked again without each one link or router."""
-        return AllQuestions(self, (), what)
+    def failing(self, what: Literal["links", "routers"], down: Iterable[str] = ()) -> AllQuestions:
+        """The same questions, each asked again without each one link or router more than those that are down."""
+        return AllQuestions(self, names_of(down), what)
 
     def replies(self, questions: str) -> tuple[Reply, ...]:
         """What is said to the lines of a file of questions, as the page ASKING has them: each has a class, what is down, and
         a question or `count`. WordsRefused where a line is not of its form."""
         said = call(ASK, ["F", "questions", "S"], self.text, self.name, questions, IS_DONE)
-        words = {one.line: one.words for one in questions_of(questions.encode("ascii", "replace"))}
-        return tuple(
-            _reply(report.line, words[report.line], report.parts)
-            for report in reports_of(said.text)
-            if report.line is not None
-        )
+        words = {one.line: one.words for one in questions_of(bytes_of(questions))}
+        reports = [report for report in read(reports_of, said) if report.line is not None]
+        if [report.line for report in reports] != list(words):
+            raise ProgramFailed(said.status, "the program did not answer each question")
+        return tuple(_reply(report.line, words[report.line], report.parts) for report in reports if report.line)
 
     def groups(self) -> Iterator[tuple[DestClass, tuple[Group, ...]]]:
         """The groups of each class, as `DestClass.groups` gives them. Processes share the classes."""
         for found, frame in self._each("groups"):
-            yield found, tuple(groups_of(frame.text))
+            if frame.refusal is not None:
+                raise error_of(Said(frame.status, b"", frame.written), self.name, self.text)
+            yield found, tuple(read(groups_of, Said(frame.status, frame.written, b"")))
 
     def compressed(self) -> Iterator[tuple[DestClass, Network | None]]:
         """The compressed network of each class, as `DestClass.compress` gives it, none where the program refuses that.
@@ -141,15 +181,25 @@ class Network:
     def class_of(self, wanted: int | str | IPv4Address | IPv4Network) -> DestClass:
         """The class of a number, the one that has a prefix, or the one with the longest prefix around an address.
         ClassNotFound where there is none."""
-        if isinstance(wanted, int):
-            if 1 <= wanted <= len(self.classes):
-                return self.classes[wanted - 1]
-            raise ClassNotFound(wanted)
-        is_prefix = isinstance(wanted, IPv4Network) or "/" in str(wanted)
-        found = class_with(self.classes, IPv4Network(wanted, strict=False), not is_prefix)
+        number = int(wanted) if isinstance(wanted, str) and NUMBER.fullmatch(wanted) else wanted
+        found = self._numbered(number) if isinstance(number, int) else self._around(wanted)
         if found is None:
             raise ClassNotFound(wanted)
         return found
+
+    def _numbered(self, number: int) -> DestClass | None:
+        return self.classes[number - 1] if 1 <= number <= len(self.classes) else None
+
+    def _around(self, wanted: object) -> DestClass | None:
+        """The class that has a prefix, or the longest prefix around an address."""
+        try:
+            prefix = IPv4Network(str(wanted), strict=False)
+        except ValueError:
+            return None
+        if isinstance(wanted, IPv4Network) or "/" in str(wanted):
+            return self._by_prefix.get(prefix)
+        around = (prefix.supernet(new_prefix=length) for length in range(LONGEST_PREFIX, -1, -1))
+        return next((self._by_prefix[one] for one in around if one in self._by_prefix), None)
 
     def frame(self, what: Literal["classes", "groups"] = "classes") -> pandas.DataFrame:
         """A table of pandas: `classes`, with a row for each class, its prefixes and origins, and its sizes before and after
@@ -167,7 +217,9 @@ class Network:
             return pandas.DataFrame(members, columns=["class", "router", "group", "is_origin"])
         if what != "classes":
             raise ValueError(f"no frame {what!r}: there are 'classes' and 'groups'")
-        sizes = sizes_of(call(BONSAI, ["summary", "F"], self.text, self.name).text)
+        sizes = read(sizes_of, call(BONSAI, ["summary", "F"], self.text, self.name))
+        if [size.number for size in sizes] != [found.number for found in self.classes]:
+            raise ProgramFailed(Status.DONE, "the program did not give the sizes of each class")
         rows: list[dict[str, Any]] = [
             {
                 "class": found.number,
@@ -180,7 +232,7 @@ class Network:
             }
             for found, size in zip(self.classes, sizes)
         ]
-        return pandas.DataFrame(rows).set_index("class") if rows else pandas.DataFrame()
+        return pandas.DataFrame(rows, columns=COLUMNS).set_index("class")
 
 
 def _reply(line: int, words: tuple[str, ...], parts: tuple[Part, ...]) -> Reply:

@@ -4,17 +4,19 @@ from __future__ import annotations
 import contextlib
 import dataclasses
 import itertools
+import re
 from collections.abc import Iterable, Iterator, Mapping, Sequence
 
-from bonsainet.ask.program import IS_DONE, Answer, NotAnswered
+from bonsainet.ask.program import IS_DONE, Status
 from bonsainet.ask.shares import processors, ranges, side_by_side
 from bonsainet.asking.reports import ClassAnswer, Tie, reports_of
 from bonsainet.asking.shares import ALWAYS_TRUE, RANGES_EACH
-from bonsainet.library.calls import ASK, call, program
-from bonsainet.library.errors import error_of
+from bonsainet.library.calls import ASK, call, errors_of, program, reading
+from bonsainet.library.errors import ProgramFailed
 from bonsainet.library.networks import Network
 
 MOST_SOLUTIONS = 64
+HEAD = re.compile(rb"class (\d+) solution \d+\n")
 
 # What a router holds in a solution, as the program writes it: its label, and to whom it forwards.
 Held = tuple[bytes, bytes]
@@ -48,7 +50,7 @@ def states_of(networks: Sequence[Network]) -> list[dict[int, State]]:
     """The states of all classes of each network, by their numbers. Processes share the classes; none is there for one class
     alone, unless the one before it has more than 64 solutions."""
     # (the program is found once, and not by several threads)
-    assert program(ASK).path
+    program(ASK)
     parts = max(1, processors() // 2) * RANGES_EACH
     shares = [
         _Share(network, *span)
@@ -97,10 +99,14 @@ def _solutions(room: contextlib.ExitStack, network: Network, first: int, last: i
     order for `solutions` and `forwards`."""
     outputs = [room.enter_context(_output(network, f"{first}-{last}", task)) for task in ("solutions", "forwards")]
     count = len(network.routers)
-    for heads in zip(*outputs):
+    for heads in itertools.zip_longest(*outputs, fillvalue=b""):
         labels, forwards = (list(itertools.islice(output, count)) for output in outputs)
-        assert heads[0] == heads[1], "bonsai-ask lists its solutions in one order"
-        yield int(heads[0].split()[1]), [(_behind(label), _behind(hops)) for label, hops in zip(labels, forwards)]
+        head = HEAD.fullmatch(heads[0]) if heads[0] == heads[1] else None
+        if not head or len(labels) < count or len(forwards) < count or not (labels[-1] + forwards[-1]).endswith(b"\n"):
+            # (where a program failed, its context says so at its end)
+            room.close()
+            raise ProgramFailed(Status.DONE, f"{ASK} did not list the same solutions twice")
+        yield int(head[1]), [(_behind(label), _behind(hops)) for label, hops in zip(labels, forwards)]
 
 
 def _behind(line: bytes) -> bytes:
@@ -111,24 +117,22 @@ def _behind(line: bytes) -> bytes:
 @contextlib.contextmanager
 def _output(network: Network, classes: str, task: str) -> Iterator[Iterator[bytes]]:
     """The lines that the program writes."""
-    try:
+    with errors_of(network.name, network.text):
         with program(ASK).output("F", classes, task, texts={"F": network.raw}) as lines:
             yield lines
-    except NotAnswered as fault:
-        raise error_of(fault.answer, network.name, network.text) from None
 
 
 def _ties(network: Network, numbers: list[int]) -> dict[int, Tie | None]:
     """The ties of these classes. Costs do not tie: routes of one cost differ in nothing."""
     if network.parsed.protocol != "bgp":
         return {}
-    found = {}
+    found: dict[int, Tie | None] = {}
     for first, last in runs(numbers):
-        said: Answer = call(ASK, ["F", f"{first}-{last}", *ALWAYS_TRUE], network.text, network.name, done=IS_DONE)
-        (report,) = reports_of(said.text)
-        for part in report.parts:
-            assert isinstance(part, ClassAnswer)
-            found[part.number] = part.tie
+        said = call(ASK, ["F", f"{first}-{last}", *ALWAYS_TRUE], network.text, network.name, done=IS_DONE)
+        with reading(said):
+            (report,) = reports_of(said.text)
+            ties = {part.number: part.tie for part in report.parts if isinstance(part, ClassAnswer)}
+            found |= {number: ties[number] for number in range(first, last + 1)}
     return found
 
 

@@ -14,7 +14,7 @@ from bonsainet.lines.heads import head_of, remedy_of, scope_under
 from bonsainet.ask.program import Program
 from bonsainet.refusals.layout import Input, openers
 from bonsainet.refusals.network import pairs
-from bonsainet.refusals.rounds import Found, Rest, judge, verdict
+from bonsainet.refusals.rounds import Found, Rest, judge
 from bonsainet.configs.text import Line, Place
 
 AT_ONCE = min(4, os.cpu_count() or 1)
@@ -51,7 +51,7 @@ class Refusals:
 
 def collect(program: Program, given: Input) -> Refusals:
     """All refusals of an input."""
-    own = verdict(program, given.text)
+    own = program.refusal(given.text)
     if own is None:
         return Refusals(given, [])
     program = Program(str(program.executable() or program.path))

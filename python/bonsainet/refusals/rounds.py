@@ -7,22 +7,13 @@ from __future__ import annotations
 
 import copy
 import dataclasses
-import re
 from collections.abc import Sequence
 
-from bonsainet.ask.program import NotAnswered, Program, Status, refusal_of
+from bonsainet.ask.program import Program
 from bonsainet.refusals.causes import cause_of
 from bonsainet.refusals.layout import END, openers, stanza_at
 
 ADDED_NAME = "hostname name-added-here"
-
-
-@dataclasses.dataclass(frozen=True)
-class Verdict:
-    """A refusal by the program: its kind, and its line from 1, or none where the text as a whole is refused."""
-
-    kind: str
-    line: int | None
 
 
 @dataclasses.dataclass(frozen=True)
@@ -33,19 +24,6 @@ class Found:
     place: int
     kind: str
     cause: int | None = None
-
-
-def verdict(program: Program, text: str) -> Verdict | None:
-    """What `classes` says of a text, or none where it is read. NotAnswered where the program could not judge."""
-    answer = program.ask("classes", "F", texts={"F": text})
-    if answer.status == Status.DONE:
-        return None
-    if at_line := refusal_of(answer):
-        return Verdict(at_line.kind, at_line.line)
-    whole = re.fullmatch(r"refused: (\w+)", answer.reason)
-    if answer.status != Status.REFUSED or not whole:
-        raise NotAnswered(answer, "classes")
-    return Verdict(whole[1], None)
 
 
 class Rest:
@@ -95,7 +73,7 @@ def judge(program: Program, rests: Sequence[Rest], only_last: bool = False) -> s
     With `only_last` it stops at a refusal in another router than the last.
     """
     before: tuple[int, int, str] | None = None
-    while found := verdict(program, text_of(rests)):
+    while found := program.refusal(text_of(rests)):
         at = _at(rests, found.line) if found.line is not None else None
         if at is None or (*at, found.kind) == before:
             return found.kind

@@ -40,7 +40,7 @@ def test_a_refused_text_says_where_and_why() -> None:
         bonsainet.Network.from_file(INPUTS / "campus-with-static-route.cfg")
     assert (found.value.kind, found.value.text.split()[:2]) == ("Unsupported", ["ip", "route"])
     lines = (INPUTS / "campus-with-static-route.cfg").read_text().splitlines()
-    assert lines[found.value.line - 1] == found.value.text
+    assert found.value.line is not None and lines[found.value.line - 1] == found.value.text
 
 
 def test_groups_and_the_compressed_network(campus: bonsainet.Network, tmp_path: Path) -> None:
@@ -63,8 +63,9 @@ def test_questions(campus: bonsainet.Network, disagree: bonsainet.DestClass) -> 
     answer = disagree.ask.hops(1, "x")
     assert not answer and answer.verdict == "no" and answer.counterexample is not None
     assert disagree.check(answer.counterexample)
-    answer.counterexample["x"] = None
-    assert not disagree.check(answer.counterexample)
+    assert not disagree.check({**answer.counterexample, "x": None})
+    with pytest.raises(TypeError):
+        answer.counterexample["x"] = None  # type: ignore[index]
 
 
 def test_failures(campus: bonsainet.Network) -> None:

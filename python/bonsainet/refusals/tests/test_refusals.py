@@ -18,7 +18,7 @@ from bonsainet.ask.where import without_notices
 from bonsainet.refusals.causes import cause_of
 from bonsainet.refusals.collect import Entry, Refusals, collect
 from bonsainet.refusals.layout import Input, parts_of, read, stanza_at
-from bonsainet.refusals.rounds import Found, verdict
+from bonsainet.refusals.rounds import Found
 from bonsainet.tests.asking import bytes_of, slow_program, tool, wait_for
 from bonsainet.configs.text import lines_of
 
@@ -44,7 +44,7 @@ def line_of(entry: Entry) -> int:
 
 @pytest.mark.parametrize("kind", TEXTS)
 def test_the_first_is_that_of_the_program(kind: str) -> None:
-    own = verdict(Program(), TEXTS[kind])
+    own = Program().refusal(TEXTS[kind])
     found = refusals(TEXTS[kind])
     first = found.entries[0]
     assert own and (first.kind, line_of(first), first.judged) == (own.kind, own.line, "the whole text")
@@ -192,7 +192,7 @@ def test_each_line_that_was_put_in_is_told(inside: dict[int, str], at_top: dict[
             expected.append(len(lines))
     text = "".join(f"{line}\n" for line in lines)
     found = refusals(text).entries
-    own = verdict(Program(), text)
+    own = Program().refusal(text)
     assert sorted(line_of(entry) for entry in found) == expected
     assert (own.line, own.kind) == (line_of(found[0]), found[0].kind) if own else not found
 
