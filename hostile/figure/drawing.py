@@ -11,6 +11,7 @@ from bonsainet.cli.command_line import Refused
 from hostile.figure.measuring import Row
 
 PAGE = TOP / "docs" / "inside" / "MEASURED.md"
+README = TOP / "README.md"
 PICTURE = TOP / "docs" / "data" / "asked.svg"
 LEAST = 0.001
 TOP_OF_PLOT = 100.0
@@ -26,10 +27,11 @@ SERIES = (
 
 
 def seconds(value: float | None) -> str:
-    """Seconds as the table has them: to three digits; `given up` where it was, nothing where it was not tried."""
+    """Seconds as the table has them: to a few digits; `given up` where it was, nothing where it was not tried."""
     if value is None:
         return ""
-    return "given up" if math.isinf(value) else f"{value:.2f}" if value < 10 else f"{value:.0f}"
+    digits = 3 if value < 0.1 else 2 if value < 10 else 0
+    return "given up" if math.isinf(value) else f"{value:.{digits}f}"
 
 
 def table(rows: list[Row]) -> str:
@@ -45,13 +47,33 @@ def table(rows: list[Row]) -> str:
     return "\n".join(lines) + "\n"
 
 
+def short(rows: list[Row], name: str = "fat tree") -> str:
+    """The largest network of a family about which the solver gave an answer, as a table of one row."""
+    row = max((one for one in rows if one.family == name and is_answered(one.solver)), key=lambda one: one.size)
+    told = (f"{row.routers:,}", *(f"{seconds(one)} s" for one in (row.solver, row.solver_after, row.ask)))
+    return (
+        "| `route '*'` | routers | Z3 | Z3, compressed | `bonsai-ask` |\n|---|---:|---:|---:|---:|\n"
+        f"| {row.family} | {' | '.join(told)} |\n"
+    )
+
+
+def is_answered(value: float | None) -> bool:
+    """Whether there are seconds of an answer: it was tried, and not given up."""
+    return value is not None and not math.isinf(value)
+
+
 def write(rows: list[Row], told: str) -> None:
-    """Draws the plot, and writes the table between its marks of the page."""
+    """Draws the plot, and writes the table between its marks of the page, and one row between those of README."""
     draw(rows, PICTURE)
-    page = PAGE.read_text("utf-8")
-    made = f"{table(rows)}\nMade with: {told}.\n"
+    put(PAGE, f"{table(rows)}\nMade with: {told}.\n")
+    put(README, short(rows))
+
+
+def put(page: Path, made: str) -> None:
+    """Writes between the marks of a page."""
     pattern = r"(<!-- measured: asked[^\n]*-->\n).*?(<!-- measured: end -->\n)"
-    PAGE.write_text(re.sub(pattern, lambda mark: mark[1] + made + mark[2], page, flags=re.S), "utf-8")
+    text = page.read_text("utf-8")
+    page.write_text(re.sub(pattern, lambda mark: mark[1] + made + mark[2], text, flags=re.S), "utf-8")
 
 
 def draw(rows: list[Row], place: Path) -> None:
@@ -72,7 +94,7 @@ def draw(rows: list[Row], place: Path) -> None:
         found = [row for row in rows if row.family == name]
         for field, label, color, line in SERIES:
             points = [(row.routers, getattr(row, field)) for row in found]
-            shown = [(x, max(y, LEAST)) for x, y in points if y is not None and not math.isinf(y)]
+            shown = [(x, max(y, LEAST)) for x, y in points if y is not None and is_answered(y)]
             axes.plot(
                 [x for x, _ in shown], [y for _, y in shown], line, color=color, marker="o", markersize=3, label=label
             )

@@ -44,8 +44,18 @@ def test_a_program_that_is_ended_by_its_limit_was_given_up(monkeypatch):
 
 def test_the_table_says_what_was_given_up_and_what_was_not_tried():
     assert drawing.table([ROW]).splitlines()[2] == (
-        "| ring | 16 | 16 | 9 | 8 | 0.02 | 12 | 0.50 | given up | 0.01 |  | 3.00 |"
+        "| ring | 16 | 16 | 9 | 8 | 0.020 | 12 | 0.50 | given up | 0.010 |  | 3.00 |"
     )
+
+
+def test_readme_has_the_largest_fat_tree_that_the_solver_answered(tmp_path):
+    sizes = [(4, 20, 1.0), (12, 180, 17.25), (20, 500, INF), (30, 1125, None)]
+    rows = [measuring.Row("fat tree", size, n, n, 6, 5, "yes", 0.1, z3, 0.06, 0.014, 0.01) for size, n, z3 in sizes]
+    page = tmp_path / "README.md"
+    page.write_text("a\n<!-- measured: asked; x -->\nold\n<!-- measured: end -->\nb\n")
+    drawing.put(page, drawing.short([ROW, *rows]))
+    assert "| fat tree | 180 | 17 s | 0.060 s | 0.014 s |\n<!-- measured: end -->\nb\n" in page.read_text()
+    assert "old" not in page.read_text() and page.read_text().startswith("a\n<!-- measured: asked; x -->\n| `route")
 
 
 def test_rows_are_kept_and_read_again(tmp_path, monkeypatch):
