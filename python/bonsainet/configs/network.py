@@ -131,22 +131,28 @@ class Network:
         for device in self.devices:
             for interface in device.up_interfaces:
                 prefix = interface.own_address.network
-                if device.bgp and prefix in device.bgp.networks:
+                if device.bgp and device.bgp.networks and prefix in device.bgp.networks:
                     found.append(Origin(device.name, prefix, interface.name, None))
                 elif is_in_area(device, interface):
                     found.append(Origin(device.name, prefix, interface.name, interface.cost_in_area))
         return found
 
     def _sessions(self) -> list[Link]:
-        at = {end.address: end for ends in self.wires.values() for end in ends}
+        # (numbers are found much faster than addresses)
+        at = {int(end.interface.own_address): end for ends in self.wires.values() for end in ends}
+        neighbors = {
+            id(device): {int(address): neighbor for address, neighbor in device.bgp.neighbors.items()}
+            for device in self.devices
+            if device.bgp
+        }
         found = []
         for device in self.devices:
-            own = {interface.own_address.network: interface for interface in device.up_interfaces}
-            for neighbor in device.bgp.neighbors.values() if device.bgp else ():
-                far = at.get(neighbor.address)
-                near = own.get(far.interface.own_address.network) if far else None
+            own = {_subnet(interface): interface for interface in device.up_interfaces}
+            for address, neighbor in neighbors.get(id(device), {}).items():
+                far = at.get(address)
+                near = own.get(_subnet(far.interface)) if far else None
                 if near and far and far.device is not device and far.device.bgp:
-                    back = far.device.bgp.neighbors.get(near.own_address.ip)
+                    back = neighbors[id(far.device)].get(int(near.own_address))
                     if back and _agree(device, neighbor, far.device, back):
                         found.append(Link(End(device, near, neighbor), End(far.device, far.interface, back)))
         return self._in_order(found)
@@ -171,6 +177,12 @@ class Network:
         return sorted(
             (link for link in links if of(link.low) < of(link.high)), key=lambda link: (of(link.low), of(link.high))
         )
+
+
+def _subnet(interface: Interface) -> tuple[int, int]:
+    """The subnet of an interface, by its address and its length."""
+    subnet = interface.own_address.network
+    return int(subnet.network_address), subnet.prefixlen
 
 
 def _agree(device: Device, neighbor: Neighbor, far: Device, back: Neighbor) -> bool:

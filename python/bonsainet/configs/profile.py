@@ -10,6 +10,7 @@ import re
 from collections.abc import Callable, Iterator
 from ipaddress import IPv4Address, IPv4Interface, IPv4Network
 
+from bonsainet.configs.addresses import address_of, classful_length, interface_of, network_of
 from bonsainet.configs.text import Line, Router
 
 DEFAULT_COSTS = {
@@ -298,7 +299,7 @@ class _Reader:
         interface = self.device.interfaces[-1]
         match words:
             case ["ip", "address", address, mask]:
-                interface.address = IPv4Interface(f"{address}/{mask}")
+                interface.address = interface_of(address, mask)
                 interface.lines["address"] = line
             case ["ip", "ospf", "cost", cost]:
                 interface.cost = int(cost)
@@ -320,11 +321,11 @@ class _Reader:
                 process.preference = int(value)
                 process.preference_line = line
             case ["network", address]:
-                process.networks[IPv4Network(f"{address}/{_classful(address)}")] = line
+                process.networks[IPv4Network(f"{address}/{classful_length(address)}")] = line
             case ["network", address, "mask", mask]:
-                process.networks[IPv4Network(f"{address}/{mask}")] = line
+                process.networks[network_of(address, mask)] = line
             case ["neighbor", address, "remote-as", number]:
-                process.neighbors[IPv4Address(address)] = Neighbor(IPv4Address(address), int(number), line)
+                process.neighbors[address_of(address)] = Neighbor(address_of(address), int(number), line)
             case ["neighbor", address, *rest]:
                 self._neighbor(line, address, rest)
             case _:
@@ -407,14 +408,8 @@ class _Reader:
                 self._ignore(line, words)
 
 
-def _classful(address: str) -> int:
-    """The length that the first number of an address gives."""
-    first = int(address.split(".")[0])
-    return 8 if first < 128 else 16 if first < 192 else 24
-
-
 def _address(word: str) -> IPv4Address | None:
     try:
-        return IPv4Address(word)
+        return address_of(word)
     except ValueError:
         return None

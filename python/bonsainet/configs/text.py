@@ -7,11 +7,15 @@ from __future__ import annotations
 
 import dataclasses
 import functools
+import re
 from collections.abc import Callable, Iterable, Iterator
 from typing import Any, ClassVar, NamedTuple, TypeVar
 
 Item = TypeVar("Item")
 Found = TypeVar("Found")
+
+# What ends a router: a top line of this one word.
+END = re.compile(r"^(?![ \t])[^\S\n]*end[^\S\n]*$", re.MULTILINE)
 
 
 class Place(NamedTuple):
@@ -220,12 +224,24 @@ class Router:
         return found
 
 
-def lines_of(text: str, file: str) -> list[Line]:
-    """The lines of a text. A carriage return before the end of a line is no part of it."""
+def lines_of(text: str, file: str, first: int = 1) -> list[Line]:
+    """The lines of a text, of which the first has this number. A carriage return before the end of a line is no part of it."""
     return [
         Line(line.removesuffix("\r"), Place(file, number))
-        for number, line in enumerate(text.removesuffix("\n").split("\n"), 1)
+        for number, line in enumerate(text.removesuffix("\n").split("\n"), first)
     ]
+
+
+def router_texts(text: str) -> Iterator[tuple[int, str]]:
+    """The text of each router with its line ``end``, and the number of its first line. What is behind the last router comes
+    too, be there a router in it or not."""
+    begin, number = 0, 1
+    for end in END.finditer(text):
+        piece = text[begin : end.end() + 1]
+        yield number, piece
+        begin, number = begin + len(piece), number + piece.count("\n")
+    if begin < len(text):
+        yield number, text[begin:]
 
 
 def routers_of(lines: Iterable[Line]) -> list[Router]:

@@ -1,0 +1,38 @@
+"""Addresses by the words of accepted lines. A network names most addresses several times, so words are read once."""
+from __future__ import annotations
+
+import functools
+from ipaddress import IPv4Address, IPv4Interface, IPv4Network
+
+KEPT = 1 << 17
+
+
+@functools.lru_cache(KEPT)
+def address_of(word: str) -> IPv4Address:
+    """An address. ValueError where the word is none."""
+    return IPv4Address(word)
+
+
+@functools.lru_cache(KEPT)
+def interface_of(address: str, mask: str) -> IPv4Interface:
+    """The address of an interface, with its subnet."""
+    # (from numbers it is made much faster than from words)
+    return IPv4Interface((int(address_of(address)), _length(mask)))
+
+
+@functools.lru_cache(KEPT)
+def network_of(address: str, mask: str) -> IPv4Network:
+    """A prefix."""
+    return IPv4Network((int(address_of(address)), _length(mask)))
+
+
+@functools.lru_cache(KEPT)
+def _length(mask: str) -> int:
+    """The length of a mask that is written as an address."""
+    return IPv4Network(f"0.0.0.0/{mask}").prefixlen
+
+
+def classful_length(address: str) -> int:
+    """The length that the first number of an address gives."""
+    first = int(address.split(".")[0])
+    return 8 if first < 128 else 16 if first < 192 else 24
