@@ -138,7 +138,7 @@ def test_no_module_of_the_folder_in_which_one_stands_is_run(
     """Neither with an option nor where the classes of a large text are shared out."""
     for name in ("argparse", "json", "re", "bonsainet"):
         (tmp_path / f"{name}.py").write_text("raise SystemExit('a foreign module')\n")
-    words = [*options, large / "ok", "*", "hops", "0", "*"]
+    words: list[str | Path] = [*options, large / "ok", "*", "hops", "0", "*"]
     assert end(*words, cwd=tmp_path) == end(*words, cwd=large)
 
 

@@ -55,7 +55,7 @@ def test_kinds_are_those_of_the_source() -> None:
 def test_the_program_refuses_each_example(kind) -> None:
     text = text_for(kind.name)
     found = Program().refusal(text)
-    assert found is not None and found.kind == kind.name
+    assert found is not None and found.kind == kind.name and found.line is not None
     line = text.split("\n")[found.line - 1]
     assert line.startswith(kind.example.removesuffix("xxx..")) if kind.name == "LineTooLong" else line == kind.example
 
