@@ -24,7 +24,7 @@ def _changed(text: bytes, change: dict[str, str], places: dict[tuple[str, ...], 
     of a head."""
     found = []
     for line in lines_of(text.decode("latin-1"), "F"):
-        words = line.words
+        words = list(line.words)
         for head, place in places.items():
             if len(words) >= len(head) and all(part in ("*", word) for part, word in zip(head, words)):
                 words[place] = [change.get(word, word) for word in words[place]]

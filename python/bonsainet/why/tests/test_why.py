@@ -92,7 +92,7 @@ def _each_two_groups(text: str) -> None:
     for found in network.classes[:3]:
         try:
             reading = Reading.of_class(found)
-        except bonsainet.WordsRefused:
+        except bonsainet.TextRefused:
             continue
         for one, other in combinations([group.members[-1] for group in reading.groups][:6], 2):
             reason = why(reading, one, other)
