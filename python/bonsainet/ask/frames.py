@@ -61,9 +61,14 @@ def _frames_of_all(answer: Answer, numbers: range) -> list[Frame] | None:
     return found if [frame.number for frame in found] == list(numbers) else None
 
 
-def frames_of(text: str | bytes, commands: Sequence[str], numbers: Sequence[int]) -> Iterator[tuple[Frame, ...]]:
-    """For each of these classes, ascending, a frame of each command. Processes share the classes, each by a range.
-    NotAnswered where the program ends otherwise than by its work."""
+def frames_of(
+    text: str | bytes,
+    commands: Sequence[str],
+    numbers: Sequence[int],
+    shares: Sequence[tuple[int, int]] | None = None,
+) -> Iterator[tuple[Frame, ...]]:
+    """For each of these classes, ascending, a frame of each command. Processes share the classes, each by a range: by those
+    that are given, if any are. NotAnswered where the program ends otherwise than by its work."""
     program = named(ALL)
 
     def asked(part: tuple[int, int]) -> list[tuple[Frame, ...]]:
@@ -79,8 +84,8 @@ def frames_of(text: str | bytes, commands: Sequence[str], numbers: Sequence[int]
 
     jobs = processors()
     wanted = set(numbers)
-    parts = ranges(numbers, jobs)
-    if len(parts) > RANGES_EACH * jobs:
+    parts = shares or ranges(numbers, jobs)
+    if not shares and len(parts) > RANGES_EACH * jobs:
         parts = ranges(range(min(numbers), max(numbers) + 1), jobs)
     for found in side_by_side(asked, parts, jobs):
         yield from (one for one in found if one[0].number in wanted)

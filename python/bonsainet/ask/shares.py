@@ -2,6 +2,7 @@
 from __future__ import annotations
 
 import concurrent.futures
+import contextlib
 import os
 from collections import deque
 from collections.abc import Callable, Iterable, Iterator, Sequence
@@ -55,3 +56,20 @@ def side_by_side(work: Callable[[Item], Made], items: Iterable[Item], jobs: int 
         finally:
             running.end()
             pool.shutdown(cancel_futures=True)
+
+
+@contextlib.contextmanager
+def meanwhile(*works: Callable[[], object]) -> Iterator[None]:
+    """Some works, each done by a thread in the time of the context, and done at its end. A fault or an interrupt ends the
+    programs that are asked."""
+    running = Running()
+    with concurrent.futures.ThreadPoolExecutor(max(1, len(works)), initializer=running.join) as pool:
+        with of_this_thread().holding(running.end):
+            try:
+                begun = [pool.submit(work) for work in works]
+                yield
+                for one in begun:
+                    one.result()
+            except BaseException:
+                running.end()
+                raise

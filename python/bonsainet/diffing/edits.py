@@ -2,6 +2,7 @@
 from __future__ import annotations
 
 import dataclasses
+import functools
 from collections.abc import Iterable, Iterator, Mapping
 
 from bonsainet.configs.network import Network
@@ -44,19 +45,16 @@ class Edit:
 
 def edits(old: Network, new: Network) -> Iterator[Edit]:
     """The items that differ, router by router."""
-    sessions = [sessions_of(network) for network in (old, new)]
-    directions = [_by_router(one) for one in sessions]
+    uses_of = functools.cache(lambda: [_Uses(network) for network in (old, new)])
     for name in {**old.by_name, **new.by_name}:
         before, after = old.by_name.get(name), new.by_name.get(name)
-        if before is None or after is None:
+        if before is None or after is None or before is after:
             continue
         items = [_items(device) for device in (before, after)]
         changed = [item for item in {**items[0], **items[1]} if _words(items[0], item) != _words(items[1], item)]
         if not changed:
             continue
-        uses = [
-            _uses(device, each, of.get(name, ())) for device, each, of in zip((before, after), sessions, directions)
-        ]
+        uses = [side.of(device) for device, side in zip((before, after), uses_of())]
         for item in changed:
             found = dict.fromkeys(one for side in uses for one in side.get(item, ()))
             yield Edit(name, item, items[0].get(item, ()), items[1].get(item, ()), tuple(found))
@@ -70,15 +68,6 @@ def sessions_of(network: Network) -> dict[Direction, Session]:
             assert near.neighbor and far.neighbor
             direction = Direction(near.device.name, far.device.name, str(near.neighbor.address))
             found[direction] = Session(near.device, far.device, near.neighbor, far.neighbor)
-    return found
-
-
-def _by_router(sessions: Iterable[Direction]) -> dict[str, list[Direction]]:
-    """For each router the directions of its sessions, as importer and as exporter."""
-    found: dict[str, list[Direction]] = {}
-    for direction in sessions:
-        for name in (direction.importer, direction.exporter):
-            found.setdefault(name, []).append(direction)
     return found
 
 
@@ -116,15 +105,23 @@ def _in_order(lines: Iterable[Line]) -> list[Line]:
     return sorted(lines, key=lambda line: line.place.line)
 
 
-def _uses(
-    device: Device, sessions: Mapping[Direction, Session], directions: Iterable[Direction]
-) -> dict[Item, list[Direction]]:
-    """For each item of a router the directions that it has a bearing on."""
-    found: dict[Item, list[Direction]] = {}
-    for direction in directions:
-        for item in _used(device, direction, sessions[direction]):
-            found.setdefault(item, []).append(direction)
-    return found
+class _Uses:
+    """For what the policies of a network are used."""
+
+    def __init__(self, network: Network) -> None:
+        self.sessions = sessions_of(network)
+        self.by_router: dict[str, list[Direction]] = {}
+        for direction in self.sessions:
+            for name in (direction.importer, direction.exporter):
+                self.by_router.setdefault(name, []).append(direction)
+
+    def of(self, device: Device) -> dict[Item, list[Direction]]:
+        """For each item of a router the directions that it has a bearing on."""
+        found: dict[Item, list[Direction]] = {}
+        for direction in self.by_router.get(device.name, ()):
+            for item in _used(device, direction, self.sessions[direction]):
+                found.setdefault(item, []).append(direction)
+        return found
 
 
 def _used(device: Device, direction: Direction, session: Session) -> Iterator[Item]:

@@ -9,17 +9,19 @@ from __future__ import annotations
 import dataclasses
 import functools
 import io
+import re
 from collections.abc import Iterator
 
-from bonsainet.ask.frames import Frame, frames_in, frames_of
+from bonsainet.ask.frames import Frame, frames_in
 from bonsainet.configs.network import End, read_network
 from bonsainet.configs.profile import Device, MapEntry, community_text
-from bonsainet.library import Network
-from bonsainet.library.calls import errors_of
+from bonsainet.library.pairs import Pair
 
 # What an edge does to routes, step by step: what the far end does, whether communities are sent, what the near end does.
 Act = tuple[str, ...]
 NOTHING_PASSES: Act = ("lets nothing pass",)
+# (a class has few other lines, and a line of these for each router)
+MEMBER = re.compile(rb"^! member (\S+)\n", re.MULTILINE)
 
 
 @dataclasses.dataclass(frozen=True)
@@ -31,34 +33,39 @@ class Form:
     refusal: str = ""
 
     @functools.cached_property
-    def devices(self) -> list[Device]:
-        """The routers of the compressed network."""
-        return self._parsed[0]
+    def groups(self) -> list[tuple[str, ...]]:
+        """The groups, each by the names of its members."""
+        return [tuple(name.decode("ascii") for name in MEMBER.findall(router)) for router in _routers(self.text)]
 
     @functools.cached_property
-    def _parsed(self) -> tuple[list[Device], dict[tuple[str, str], frozenset[Act]], int]:
-        network = read_network(self.text.decode("ascii"), "canon")
+    def sorted_groups(self) -> frozenset[tuple[str, ...]]:
+        """The groups in no order."""
+        return frozenset(tuple(sorted(members)) for members in self.groups)
+
+    @functools.cached_property
+    def _parsed(self) -> tuple[dict[tuple[str, str], frozenset[Act]], int]:
+        network = read_network(MEMBER.sub(b"", self.text).decode("ascii"), "canon")
         acts: dict[tuple[str, str], set[Act]] = {}
         for link in network.links:
             for near, far in ((link.low, link.high), (link.high, link.low)):
                 acts.setdefault((near.device.name, far.device.name), set()).add(_act(near, far))
-        return network.devices, {pair: frozenset(found) for pair, found in acts.items()}, len(network.links)
+        return {pair: frozenset(found) for pair, found in acts.items()}, len(network.links)
 
     @property
     def links(self) -> int:
         """How many links there are between groups."""
-        return self._parsed[2]
+        return self._parsed[1]
 
     @functools.cached_property
     def group_of(self) -> dict[str, tuple[str, ...]]:
         """The group of each router, by the names of its members."""
-        return {member: tuple(device.members) for device in self.devices for member in device.members}
+        return {member: members for members in self.groups for member in members}
 
     def acts(self, importer: str, exporter: str) -> frozenset[Act]:
         """The acts by which the group of a router takes routes from that of another. Empty where both are in one group, or
         where there is no such link."""
         ends = [self.group_of[name][0] for name in (importer, exporter) if name in self.group_of]
-        return self._parsed[1].get((ends[0], ends[1]), frozenset()) if len(ends) == 2 else frozenset()
+        return self._parsed[0].get((ends[0], ends[1]), frozenset()) if len(ends) == 2 else frozenset()
 
 
 def _act(near: End, far: End) -> Act:
@@ -114,16 +121,15 @@ def _listed(device: Device, name: str) -> str:
     return " or ".join(found)
 
 
-def forms_of(networks: tuple[Network, Network]) -> tuple[dict[int, Form], dict[int, Form]]:
-    """The forms of all classes of each side, by their numbers. Processes share the classes."""
-    old, new = (dict(_forms_of(network)) for network in networks)
+def _routers(text: bytes) -> Iterator[bytes]:
+    """The text of each router."""
+    return (router for router in text.split(b"\nend\n") if router)
+
+
+def forms_of(both: Pair) -> tuple[dict[int, Form], dict[int, Form]]:
+    """The forms of all classes of each side, by their numbers."""
+    old, new = ({number: _form(frame) for number, frame in frames.items()} for frames in both.canons)
     return old, new
-
-
-def _forms_of(network: Network) -> Iterator[tuple[int, Form]]:
-    with errors_of(network.name, network.text):
-        for (frame,) in frames_of(network.raw, ["canon"], [found.number for found in network.classes]):
-            yield frame.number, _form(frame)
 
 
 def _form(frame: Frame) -> Form:

@@ -5,7 +5,7 @@ That one of them is the cause of a change of routes is not said: each is a diffe
 from __future__ import annotations
 
 import dataclasses
-from collections.abc import Iterator, Mapping
+from collections.abc import Collection, Iterator, Mapping
 
 from bonsainet.cli.command_line import printable
 from bonsainet.configs.network import End, Link, Network as Parsed, Origin
@@ -15,6 +15,7 @@ from bonsainet.diffing.edits import Edit, edits, sessions_of
 from bonsainet.diffing.forms import Act, Form, forms_of
 from bonsainet.diffing.sessions import Acts
 from bonsainet.library import Network
+from bonsainet.library.pairs import Pair
 
 
 @dataclasses.dataclass(frozen=True)
@@ -70,16 +71,15 @@ class Reasons:
     forms: tuple[FormChange, ...]
 
 
-def reasons_of(old: Network, new: Network) -> Reasons:
-    """The differences of two networks. The programs are asked for all classes at once."""
-    if old.text == new.text:
+def reasons_of(both: Pair) -> Reasons:
+    """The differences of both networks. The programs are asked for all classes at once."""
+    if both.old.text == both.new.text:
         return Reasons((), (), ())
-    pairs = _pairs(old, new)
-    forms = forms_of((old, new))
+    pairs = _pairs(both.old, both.new)
+    plain, policies = tuple(_plain(*both.parsed, both.shared)), tuple(_policies(both, pairs))
+    forms = forms_of(both)
     differing = {pair: names for pair, names in pairs.items() if forms[0][pair[0]] != forms[1][pair[1]]}
-    return Reasons(
-        tuple(_plain(old.parsed, new.parsed)), tuple(_policies(old, new, pairs)), tuple(_forms(forms, differing))
-    )
+    return Reasons(plain, policies, tuple(_forms(forms, differing)))
 
 
 def _pairs(old: Network, new: Network) -> dict[tuple[int, int], tuple[str, ...]]:
@@ -92,10 +92,11 @@ def _pairs(old: Network, new: Network) -> dict[tuple[int, int], tuple[str, ...]]
     return {pair: tuple(prefixes) for pair, prefixes in found.items()}
 
 
-def _plain(old: Parsed, new: Parsed) -> Iterator[Reason]:
+def _plain(old: Parsed, new: Parsed, shared: Collection[str]) -> Iterator[Reason]:
+    """Links, origins and numbers that differ. Routers whose lines are the same on both sides have none but links."""
     yield from _links(old, new)
-    yield from _origins(old, new)
-    for name in [name for name in old.by_name if name in new.by_name]:
+    yield from _origins(old, new, shared)
+    for name in [name for name in old.by_name if name in new.by_name and name not in shared]:
         before, after = (network.by_name[name].bgp for network in (old, new))
         if not before or not after:
             continue
@@ -110,7 +111,9 @@ def _plain(old: Parsed, new: Parsed) -> Iterator[Reason]:
 
 def _links(old: Parsed, new: Parsed) -> Iterator[Reason]:
     """Links that went, came, or cost something else."""
-    sides = [{_key(link): link for link in network.links} for network in (old, new)]
+    ends = [{_ends(link) for link in network.links} for network in (old, new)]
+    same = ends[0] & ends[1]
+    sides = [{_key(link): link for link in network.links if _ends(link) not in same} for network in (old, new)]
     for key, link in sides[0].items():
         if key not in sides[1]:
             yield Reason(_word(link), f"{_named(link)} is gone{_why(link, new)}", *_lines(link, old, new))
@@ -120,6 +123,12 @@ def _links(old: Parsed, new: Parsed) -> Iterator[Reason]:
     for key, link in sides[0].items():
         if key in sides[1]:
             yield from _costs(link, sides[1][key])
+
+
+def _ends(link: Link) -> tuple[int, ...]:
+    """The objects of the ends, which are the same on both sides where the lines of both routers are."""
+    low, high = link.low, link.high
+    return id(low.interface), id(low.neighbor), id(high.interface), id(high.neighbor)
 
 
 def _key(link: Link) -> frozenset[tuple[str, str]]:
@@ -204,10 +213,13 @@ def _cost_lines(end: End) -> tuple[Line, ...]:
     return (end.interface.lines.get("cost", end.interface.line),)
 
 
-def _origins(old: Parsed, new: Parsed) -> Iterator[Reason]:
-    sides = [{(one.device, one.prefix): one for one in network.origins} for network in (old, new)]
+def _origins(old: Parsed, new: Parsed, shared: Collection[str]) -> Iterator[Reason]:
     # (of a router that is gone or new, all is)
-    for key in [key for key in {**sides[0], **sides[1]} if key[0] in old.by_name and key[0] in new.by_name]:
+    routers = {name for name in old.by_name if name in new.by_name and name not in shared}
+    sides = [
+        {(one.device, one.prefix): one for one in network.origins if one.device in routers} for network in (old, new)
+    ]
+    for key in {**sides[0], **sides[1]}:
         before, after = (side.get(key) for side in sides)
         lines = [_origin_lines(network, before or after) for network in (old, new)]
         name = f"{key[0]} originates {key[1]}"
@@ -233,12 +245,13 @@ def _origin_lines(network: Parsed, origin: Origin | None) -> tuple[Line, ...]:
 Pairs = Mapping[tuple[int, int], tuple[str, ...]]
 
 
-def _policies(old: Network, new: Network, pairs: Pairs) -> Iterator[PolicyEdit]:
+def _policies(both: Pair, pairs: Pairs) -> Iterator[PolicyEdit]:
     """The edits of policies, each with what it changes."""
-    found = list(edits(old.parsed, new.parsed))
+    found = list(edits(*both.parsed))
     if not found:
         return
-    sessions = [sessions_of(network.parsed) for network in (old, new)]
+    old, new = both.old, both.new
+    sessions = [sessions_of(network) for network in both.parsed]
     firsts = {prefixes[0]: prefixes for prefixes in pairs.values()}
     # (an originator takes no route of its own prefix)
     own = {
@@ -272,11 +285,11 @@ def _forms(forms: Forms, differing: Pairs) -> Iterator[FormChange]:
     alike: dict[FormChange, list[str]] = {}
     for pair, common in differing.items():
         before, after = forms[0][pair[0]], forms[1][pair[1]]
-        groups = [{tuple(sorted(device.members)) for device in form.devices} for form in (before, after)]
+        groups = [form.sorted_groups for form in (before, after)]
         links = tuple(None if form.refusal else form.links for form in (before, after))
         if groups[0] == groups[1] and links[0] == links[1]:
             continue
-        counts = tuple(None if form.refusal else len(form.devices) for form in (before, after))
+        counts = tuple(None if form.refusal else len(form.groups) for form in (before, after))
         gone, new = (tuple(sorted(one - other)) for one, other in ((groups[0], groups[1]), (groups[1], groups[0])))
         found = FormChange((), (counts[0], counts[1]), (links[0], links[1]), gone, new)
         alike.setdefault(found, []).extend(common)

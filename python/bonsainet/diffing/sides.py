@@ -10,16 +10,17 @@ import sys
 import tempfile
 from collections.abc import Callable, Iterator
 from pathlib import Path
+from typing import TYPE_CHECKING
 
 from bonsainet.cli.command_line import Refused, printable, read_input
 from bonsainet.cli.words import counted
-from bonsainet.cli.workers import workers
-from bonsainet.diffing import git
-from bonsainet.importing.decisions import Decisions, decisions_in, read_decisions
-from bonsainet.importing.rules.options import Options
-from bonsainet.importing.tool import import_folder
 from bonsainet.library import BonsaiError, ImportRefused, Network
 from bonsainet.library.calls import BONSAI, program
+
+if TYPE_CHECKING:
+    from bonsainet.importing.decisions import Decisions
+
+# (the rules of the import, and what starts workers, load where a folder is imported)
 
 # A revision has no two points in a row, and neither begins nor ends with a slash, as paths with `..` in them do.
 RANGE = re.compile(r"(?P<old>(?!/)(?:(?!\.\.)[^:])*?)(?<!/)(?P<points>\.{2,3})(?![./])(?P<new>(?:(?!\.\.)[^:])*)(?<!/)")
@@ -60,6 +61,8 @@ def places(old: str, new: str | None) -> tuple[Place, Place] | None:
     """Where both sides are, by the words of the command line. None where the second is missing."""
     found = None if os.path.exists(old) else RANGE.fullmatch(old)
     if found and (found["old"] or found["new"]):
+        from bonsainet.diffing import git
+
         revisions = found["old"] or "HEAD", found["new"] or "HEAD"
         below = f"./{(new or '').removeprefix('./')}"
         first = git.merge_base(*revisions) if found["points"] == MERGE_BASE else revisions[0]
@@ -92,6 +95,8 @@ def network_at(side: Place, decisions: Place | None, own_as: bool, room: str | N
         if side.path != "-" and os.path.isdir(side.path):
             return _imported(side.path, side.name, decisions, own_as)
         return _text(read_input(side.path), side.name)
+    from bonsainet.diffing import git
+
     kind, name = git.kind_and_name(side.revision, side.path)
     if kind != git.TREE:
         return _text(git.read_file(name), side.name)
@@ -112,6 +117,8 @@ def networks_at(
     works = [functools.partial(network_at, side, each, own_as) for side, each in zip(sides, decisions)]
     if not all(side.revision is not None or os.path.isdir(side.path) for side in sides):
         return works[0](), works[1]()
+    from bonsainet.cli.workers import workers
+
     # (a signal ends the process at once: its files are this one's to remove)
     with tempfile.TemporaryDirectory(prefix=PREFIX) as room, workers(1) as pool:
         second = pool.submit(works[1], room)
@@ -143,11 +150,17 @@ def _text(raw: bytes, name: str) -> Network:
 
 def _imported(folder: str, name: str, decisions: Place | None, own_as: bool) -> Network:
     """The network of a folder."""
+    from bonsainet.importing.rules.options import Options
+    from bonsainet.importing.tool import import_folder
+
     made = _decisions(decisions) if decisions else None
     return Network.of_import(import_folder(folder, program(BONSAI), made, Options.of(own_as, [], False)), name)
 
 
 def _decisions(place: Place) -> Decisions:
+    from bonsainet.diffing import git
+    from bonsainet.importing.decisions import decisions_in, read_decisions
+
     if place.revision is None:
         return decisions_in(place.path)
     kind, name = git.kind_and_name(place.revision, place.path)

@@ -4,15 +4,20 @@ from __future__ import annotations
 import argparse
 import json
 
+from bonsainet.ask.program import ALL
+from bonsainet.ask.shares import meanwhile, side_by_side
 from bonsainet.cli.command_line import parser, write_output
+from bonsainet.cli.memory import expect_many_objects
 from bonsainet.diffing.documents import document
 from bonsainet.diffing.reason_words import reason_lines
-from bonsainet.diffing.reasons import reasons_of
+from bonsainet.diffing.reasons import Reasons, reasons_of
 from bonsainet.diffing.shown import show
 from bonsainet.diffing.sides import beside, networks_at, places, refusing, say_changes
 from bonsainet.diffing.words import lines
-from bonsainet.library import diff
+from bonsainet.library import Difference
 from bonsainet.library.calls import ASK, program
+from bonsainet.library.changes import difference
+from bonsainet.library.pairs import Pair
 
 NAME = "bonsai-diff"
 DIFFERS = 8
@@ -62,6 +67,7 @@ def main(argv: list[str] | None = None) -> int:
     """Runs the tool: 0 where no route changes, 8 where one does."""
     made = words()
     given = made.parse_args(argv)
+    expect_many_objects()
     sides = places(given.old, given.new)
     if sides is None:
         made.error("NEW is missing: give two networks, or two revisions as OLD..NEW")
@@ -71,7 +77,7 @@ def main(argv: list[str] | None = None) -> int:
         old, new = networks_at(sides, (first, second), given.own_as)
         say_changes(NAME, old)
         say_changes(NAME, new)
-        found, reasons = diff(old, new), reasons_of(old, new)
+        found, reasons = compared(Pair(old, new))
     if given.html:
         from bonsainet.diffing.page import page
 
@@ -83,3 +89,14 @@ def main(argv: list[str] | None = None) -> int:
     else:
         show([*lines(found, given.long), *reason_lines(reasons, given.long)])
     return DIFFERS if found else 0
+
+
+def compared(both: Pair) -> tuple[Difference, Reasons]:
+    """What changes, and how the networks differ. The programs work while the lines of both sides are read."""
+    if both.old.text == both.new.text:
+        return difference(both), reasons_of(both)
+    # (each program is found once, and not by several threads)
+    list(side_by_side(program, (ASK, ALL)))
+    with meanwhile(lambda: both.states, lambda: both.canons):
+        assert all(network.links is not None for network in both.parsed)
+    return difference(both), reasons_of(both)

@@ -3,15 +3,21 @@ from __future__ import annotations
 
 import dataclasses
 import enum
+import functools
 from collections.abc import Collection
 
+from bonsainet.ask.program import Answer, Status
 from bonsainet.asking.reports import Tie
-from bonsainet.library.errors import TextRefused
+from bonsainet.library.calls import reading
+from bonsainet.library.comparing import Comparison
 from bonsainet.library.networks import Network
-from bonsainet.library.routes import Aspect, Near, Routes, near_interfaces, routes_of
-from bonsainet.library.states import Held, State, states_of
+from bonsainet.library.pairs import Pair
+from bonsainet.library.routes import Aspect, Routes
+from bonsainet.library.states import State
 
 NO_ROUTE: Routes = frozenset([None])
+# (routers change alike for many prefixes)
+KEPT = 1 << 14
 
 
 class Kind(enum.Enum):
@@ -88,38 +94,30 @@ class Difference:
         return bool(self.changed)
 
 
-@dataclasses.dataclass(frozen=True)
-class _Sides:
-    """The interfaces towards neighbours on both sides, and the routers for which they are not the same."""
-
-    before: Near
-    after: Near
-    moved: frozenset[str]
-
-    @classmethod
-    def of(cls, old: Network, new: Network) -> _Sides:
-        before, after = near_interfaces(old.parsed), near_interfaces(new.parsed)
-        pairs = {pair for pair in {**before, **after} if before.get(pair) != after.get(pair)}
-        return cls(before, after, frozenset(router for router, _ in pairs))
-
-
 def diff(old: Network, new: Network) -> Difference:
     """What changes in routing from one network to another, in every stable solution. The labels are those of the proved
     programs."""
-    pairs = _pairs(old, new)
-    compared = {} if old.text == new.text else _compared_each(old, new, list(dict.fromkeys(pairs.values())))
+    return difference(Pair(old, new))
+
+
+def difference(both: Pair) -> Difference:
+    """What changes in routing between both networks of a pair."""
+    pairs = _pairs(both.old, both.new)
+    with reading(Answer(Status.DONE, b"", b"")):
+        compared = {} if both.old.text == both.new.text else _compared_each(both, list(dict.fromkeys(pairs.values())))
     alike: dict[PrefixChange, list[str]] = {}
     partly = []
     for prefix, pair in pairs.items():
         found = compared.get(pair)
-        if found and found.is_equal_in_part and _has_one_canon(old, new, pair):
+        if found and found.is_equal_in_part and both.has_one_canon(*pair):
             partly.append(prefix)
         elif found:
             alike.setdefault(found, []).append(prefix)
+    old, new = ([device.name for device in network.devices] for network in both.parsed)
     return Difference(
         tuple(dataclasses.replace(found, prefixes=tuple(prefixes)) for found, prefixes in alike.items()),
-        _without(old.routers, new.routers),
-        _without(new.routers, old.routers),
+        _without(old, new),
+        _without(new, old),
         tuple(prefix for prefix, (_, number) in pairs.items() if not number),
         tuple(prefix for prefix, (number, _) in pairs.items() if not number),
         len(pairs) - sum(map(len, alike.values())),
@@ -138,39 +136,23 @@ def _pairs(old: Network, new: Network) -> dict[str, tuple[int, int]]:
     return {prefix: (sides[0].get(prefix, 0), sides[1].get(prefix, 0)) for prefix in {**sides[0], **sides[1]}}
 
 
-def _compared_each(
-    old: Network, new: Network, pairs: list[tuple[int, int]]
-) -> dict[tuple[int, int], PrefixChange | None]:
+def _compared_each(both: Pair, pairs: list[tuple[int, int]]) -> dict[tuple[int, int], PrefixChange | None]:
     """How the classes of each pair differ, if they do."""
-    before, after = states_of([old, new])
-    sides = _Sides.of(old, new)
+    comparison = Comparison.of(both)
+    before, after = both.states
     # (a prefix that nobody originates has one solution, in which nobody has a route)
-    absent = [State(1, True, dict.fromkeys(network.routers, frozenset([NOTHING]))) for network in (old, new)]
-    return {pair: _compared(before.get(pair[0], absent[0]), after.get(pair[1], absent[1]), sides) for pair in pairs}
+    absent = [side.without_routes for side in comparison.sides]
+    return {
+        pair: _compared(before.get(pair[0], absent[0]), after.get(pair[1], absent[1]), comparison) for pair in pairs
+    }
 
 
-def _has_one_canon(old: Network, new: Network, pair: tuple[int, int]) -> bool:
-    """Whether the classes have the same compressed network with canonical maps, so that they have the same labels."""
-    try:
-        before, after = (network.class_of(number).canon().text for network, number in zip((old, new), pair))
-    except TextRefused:
-        return False
-    return before == after
-
-
-NOTHING: Held = (b"none", b"none")
-UNKNOWN: frozenset[Held] = frozenset([NOTHING])
-
-
-def _compared(before: State, after: State, sides: _Sides) -> PrefixChange | None:
+def _compared(before: State, after: State, comparison: Comparison) -> PrefixChange | None:
     """How two states differ, if they do."""
     alike: dict[Change, list[str]] = {}
     # (where there is no stable solution, there is nothing to compare)
-    for name in {**before.held, **after.held} if before.solutions and after.solutions else ():
-        old, new = before.held.get(name, UNKNOWN), after.held.get(name, UNKNOWN)
-        if old == new and name not in sides.moved:
-            continue
-        found = _change(routes_of(name, old, sides.before), routes_of(name, new, sides.after))
+    for name, old, new in comparison.differing(before, after) if before.solutions and after.solutions else ():
+        found = _change(old, new)
         if found:
             alike.setdefault(found, []).append(name)
     shown = [Side(state.solutions, state.is_whole, state.tie) for state in (before, after)]
@@ -182,6 +164,7 @@ def _compared(before: State, after: State, sides: _Sides) -> PrefixChange | None
     return PrefixChange((), changes, *shown)
 
 
+@functools.lru_cache(KEPT)
 def _change(old: Routes, new: Routes) -> Change | None:
     """The change from routes to routes, if there is one."""
     if old == new:

@@ -3,10 +3,13 @@ from __future__ import annotations
 
 import re
 import signal
+from typing import TYPE_CHECKING
 
 from bonsainet.ask.program import Answer, Status, refusal_of
 from bonsainet.cli.command_line import printable, shown
-from bonsainet.importing.report import Report
+
+if TYPE_CHECKING:
+    from bonsainet.importing.report import Report
 
 LONGEST_SHOWN = 200
 USAGE = "usage: bonsai-ask "

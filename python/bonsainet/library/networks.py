@@ -15,6 +15,7 @@ from bonsainet.ask.program import (
     ASK,
     BONSAI,
     IS_DONE,
+    Class,
     Group,
     NotAnswered,
     Status,
@@ -31,10 +32,6 @@ from bonsainet.configs.network import Network as Parsed
 from bonsainet.configs.network import read_network
 from bonsainet.configs.profile import device_of
 from bonsainet.configs.text import text_of
-from bonsainet.importing.decisions import decisions_in
-from bonsainet.importing.report import Report
-from bonsainet.importing.rules.options import Options
-from bonsainet.importing.tool import import_folder
 from bonsainet.library.answers import Answer, Reply
 from bonsainet.library.calls import call, errors_of, program, read
 from bonsainet.library.classes import DestClass
@@ -43,6 +40,8 @@ from bonsainet.library.questions import AllQuestions, names_of
 
 if TYPE_CHECKING:
     import pandas
+
+    from bonsainet.importing.report import Report
 
 FilePath = str | os.PathLike[str]
 LONGEST_PREFIX = 32
@@ -79,6 +78,11 @@ class Network:
         router of a shared AS number a number of its own, and `stubs` are routers to add, as `PEER=PREFIX,..`.
         ImportRefused where lines are left to a person, FolderRefused where the folder, decisions or stubs are not of their
         form, OSError where a file cannot be read."""
+        # (who reads texts alone does not wait for the rules of the import)
+        from bonsainet.importing.decisions import decisions_in
+        from bonsainet.importing.rules.options import Options
+        from bonsainet.importing.tool import import_folder
+
         name, made, asked = os.fspath(path), None, program(BONSAI)
         try:
             if decisions is not None:
@@ -126,11 +130,20 @@ class Network:
     @functools.cached_property
     def classes(self) -> tuple[DestClass, ...]:
         """The classes of destination prefixes, in order."""
+        return tuple(DestClass.of(self, found) for found in self._listed)
+
+    @functools.cached_property
+    def _listed(self) -> list[Class]:
         said = call(BONSAI, ["classes", "F"], self.text, self.name)
-        made = tuple(DestClass.of(self, found) for found in read(classes_of, said))
+        made = read(classes_of, said)
         if [found.number for found in made] != list(range(1, len(made) + 1)):
             raise ProgramFailed(said.status, "the program did not count the classes from 1")
         return made
+
+    @property
+    def is_bgp(self) -> bool:
+        """Whether classes have routes of BGP: in OSPF the program lists each originator with its cost."""
+        return any(cost is None for found in self._listed for _, cost in found.origins)
 
     @functools.cached_property
     def _by_prefix(self) -> dict[IPv4Network, DestClass]:

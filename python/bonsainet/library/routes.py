@@ -3,15 +3,17 @@ from __future__ import annotations
 
 import dataclasses
 import enum
+import functools
 from collections.abc import Collection, Iterable, Mapping
 
 from bonsainet.ask.labels import BgpLabel, OspfLabel, read_solution
 from bonsainet.asking.reports import forwards_of
-from bonsainet.asking.ways import interfaces_of
 from bonsainet.configs.network import Network
 
 NextHop = tuple[str, tuple[str, ...]]
 Near = Mapping[tuple[str, str], tuple[str, ...]]
+# (routers hold few labels and few sets of next hops)
+KEPT = 1 << 16
 
 
 class Aspect(enum.Enum):
@@ -63,24 +65,43 @@ Routes = frozenset[Route | None]
 
 
 def near_interfaces(network: Network) -> dict[tuple[str, str], tuple[str, ...]]:
-    """For each pair of routers the interfaces of the first towards the second."""
-    pairs = interfaces_of(network)
-    return {pair: tuple(sorted(one.partition(" > ")[0] for one in each)) for pair, each in pairs.items()}
+    """For each pair of routers the interfaces of the first over which it may forward to the second, as `interfaces_of` has
+    them."""
+    found: dict[tuple[str, str], list[tuple[int, str]]] = {}
+    for link in network.links:
+        for near, far in ((link.low, link.high), (link.high, link.low)):
+            cost = near.cost or 0 if network.protocol == "ospf" else 0
+            found.setdefault((near.device.name, far.device.name), []).append((cost, near.interface.name))
+    return {pair: tuple(sorted(name for cost, name in ends if cost == min(ends)[0])) for pair, ends in found.items()}
 
 
 def routes_of(router: str, held: Iterable[tuple[bytes, bytes]], near: Near) -> Routes:
     """The routes of a router, none where it has no route, by what the program writes: labels, and to whom it forwards."""
-    return frozenset(_route(router, label.decode("ascii"), hops.decode("ascii"), near) for label, hops in held)
+    return frozenset(_route(router, key_of(label), _nexts(hops), near) for label, hops in held)
 
 
-def _route(router: str, label: str, hops: str, near: Near) -> Route | None:
-    found = read_solution(f"{router} {label}")[router]
-    (nexts,) = forwards_of([f"{router} {hops}"]).values()
-    over = tuple(sorted((further, near.get((router, further), ())) for further in nexts or ()))
-    match found:
+@functools.lru_cache(KEPT)
+def key_of(label: bytes) -> Route | None:
+    """What two labels have in common between which a router may choose freely: a route without its next hops, none for no
+    route."""
+    match read_solution(f"r {label.decode('ascii')}")["r"]:
         case OspfLabel(cost):
-            return Route(over, cost=cost)
+            return Route(None, cost=cost)
         case BgpLabel(preference, path, communities):
-            return Route(over, preference, len(path), communities)
+            return Route(None, preference, len(path), communities)
         case _:
             return None
+
+
+@functools.lru_cache(KEPT)
+def _nexts(hops: bytes) -> tuple[str, ...]:
+    (nexts,) = forwards_of([f"r {hops.decode('ascii')}"]).values()
+    return nexts or ()
+
+
+def _route(router: str, key: Route | None, nexts: Iterable[str], near: Near) -> Route | None:
+    if key is None:
+        return None
+    return dataclasses.replace(
+        key, nexts=tuple(sorted((further, near.get((router, further), ())) for further in nexts))
+    )

@@ -1,22 +1,27 @@
 """All that a network may come to rest in: for each class its stable solutions, router by router."""
 from __future__ import annotations
 
-import contextlib
 import dataclasses
-import itertools
+import functools
 import re
 from collections.abc import Iterable, Iterator, Mapping, Sequence
 
 from bonsainet.ask.program import IS_DONE, Status
-from bonsainet.ask.shares import processors, ranges, side_by_side
+from bonsainet.ask.shares import processors, side_by_side
 from bonsainet.asking.reports import ClassAnswer, Tie, reports_of
-from bonsainet.asking.shares import ALWAYS_TRUE, RANGES_EACH
+from bonsainet.asking.shares import ALWAYS_TRUE
 from bonsainet.library.calls import ASK, call, errors_of, program, reading
 from bonsainet.library.errors import ProgramFailed
 from bonsainet.library.networks import Network
+from bonsainet.library.written import MOST_SOLUTIONS, Written, read
 
-MOST_SOLUTIONS = 64
-HEAD = re.compile(rb"class (\d+) solution \d+\n")
+__all__ = ["MOST_SOLUTIONS", "Held", "State", "states_of"]
+
+SOLUTIONS, FORWARDS = "solutions", "forwards"
+# (a range has at least so many classes, since each process reads the text)
+CLASSES_EACH = 256
+BEHIND_COMMUNITY = re.compile(rb"community([^\n]*)")
+FIRST_COMMUNITIES = range(1, 1 << 16)
 
 # What a router holds in a solution, as the program writes it: its label, and to whom it forwards.
 Held = tuple[bytes, bytes]
@@ -24,26 +29,53 @@ Held = tuple[bytes, bytes]
 
 @dataclasses.dataclass(frozen=True)
 class State:
-    """What a class may come to rest in: how many stable solutions were read, whether these are all, what each router holds
-    in them, and a tie if the solutions are tied. Of more than 64 solutions the first 64 are read, and no tie is asked for.
-    """
+    """What a class may come to rest in: what is written of its solutions, and a tie if the solutions are tied. Of more than
+    64 solutions the first 64 are read, and no tie is asked for."""
 
-    solutions: int
-    is_whole: bool
-    held: Mapping[str, frozenset[Held]]
+    labels: Written
+    forwards: Written
     tie: Tie | None = None
 
+    @property
+    def solutions(self) -> int:
+        """How many stable solutions were read."""
+        return len(self.labels.solutions)
 
-NO_SOLUTION = State(0, True, {})
+    @property
+    def is_whole(self) -> bool:
+        """Whether these are all."""
+        return self.labels.is_whole
+
+    @property
+    def only(self) -> tuple[bytes, bytes] | None:
+        """The labels and the next hops of the one solution, as they are written. None where there are several, or none."""
+        labels, forwards = self.labels.only, self.forwards.only
+        return None if labels is None or forwards is None else (labels, forwards)
+
+    @functools.cached_property
+    def held(self) -> Mapping[str, frozenset[Held]]:
+        """What each router holds in the solutions."""
+        labels, forwards = self.labels.lines(), self.forwards.lines()
+        found = {}
+        for lines in zip(zip(*labels), zip(*forwards)):
+            name = lines[0][0].partition(b" ")[0].decode("ascii")
+            found[name] = frozenset((behind(label), behind(hops)) for label, hops in zip(*lines))
+        return found
+
+
+def behind(line: bytes) -> bytes:
+    """A line without its first word, the router's name."""
+    return line.partition(b" ")[2]
 
 
 @dataclasses.dataclass(frozen=True)
 class _Share:
-    """Classes of a network that are asked for together."""
+    """Classes of a network for which one task is done by one process."""
 
     network: Network
     first: int
     last: int
+    task: str
 
 
 def states_of(networks: Sequence[Network]) -> list[dict[int, State]]:
@@ -51,89 +83,94 @@ def states_of(networks: Sequence[Network]) -> list[dict[int, State]]:
     alone, unless the one before it has more than 64 solutions."""
     # (the program is found once, and not by several threads)
     program(ASK)
-    parts = max(1, processors() // 2) * RANGES_EACH
     shares = [
-        _Share(network, *span)
+        _Share(network, first, last, task)
+        for task in (FORWARDS, SOLUTIONS)
         for network in networks
-        for span in ranges([found.number for found in network.classes], parts)
+        for first, last in spans(len(network.classes))
     ]
-    states: dict[int, dict[int, State]] = {id(network): {} for network in networks}
-    for share, part in zip(shares, side_by_side(_states_of_share, shares)):
-        states[id(share.network)] |= part
-    return [states[id(network)] for network in networks]
-
-
-def _states_of_share(share: _Share) -> dict[int, State]:
-    read = dict(_read(share))
-    whole = [number for number in range(share.first, share.last + 1) if read.get(number, NO_SOLUTION).is_whole]
-    ties = _ties(share.network, whole)
-    return {
-        number: dataclasses.replace(read.get(number, NO_SOLUTION), tie=ties.get(number))
-        for number in range(share.first, share.last + 1)
+    found: dict[tuple[int, str], dict[int, _Read]] = {
+        (id(network), task): {} for network in networks for task in (SOLUTIONS, FORWARDS)
     }
+    for share, part in zip(shares, side_by_side(_done, shares)):
+        found[id(share.network), share.task] |= part
+    return [_states(found[id(network), SOLUTIONS], found[id(network), FORWARDS]) for network in networks]
 
 
-def _read(share: _Share) -> Iterator[tuple[int, State]]:
-    """The states of the classes that have solutions. The program goes on behind a class with too many of them."""
+_Read = tuple[Written, Tie | None]
+
+
+def _states(labels: Mapping[int, _Read], forwards: Mapping[int, _Read]) -> dict[int, State]:
+    """The program lists the solutions of a class in one order for both tasks."""
+    found = {number: State(written, forwards[number][0], tie) for number, (written, tie) in labels.items()}
+    for state in found.values():
+        lengths = [*state.labels.lengths, *state.forwards.lengths]
+        if len(state.forwards.solutions) != state.solutions or len(set(lengths)) > 1:
+            raise ProgramFailed(Status.DONE, f"{ASK} did not list the same solutions twice")
+    return found
+
+
+def spans(count: int) -> list[tuple[int, int]]:
+    """So many classes as ranges, few of them: both networks of a pair are asked at the same time, and for several tasks."""
+    parts = max(1, processors() // 4, count // CLASSES_EACH)
+    size = max(1, -(-count // parts))
+    return [(first, min(first + size - 1, count)) for first in range(1, count + 1, size)]
+
+
+def _done(share: _Share) -> dict[int, _Read]:
+    """What the program writes of each class, with ties among the solutions."""
+    found = dict.fromkeys(range(share.first, share.last + 1), Written()) | dict(_read(share))
+    ties: dict[int, Tie | None] = {}
+    if share.task == SOLUTIONS:
+        ties = _ties(share.network, [number for number, written in found.items() if written.is_whole])
+    return {number: (written, ties.get(number)) for number, written in found.items()}
+
+
+def _read(share: _Share) -> Iterator[tuple[int, Written]]:
+    """What the program writes of the classes that have solutions. It is asked again behind a class with too many of them."""
     first = share.first
     while first <= share.last:
-        with contextlib.ExitStack() as room:
-            found = _solutions(room, share.network, first, share.last)
-            first = share.last + 1
-            for number, of_class in itertools.groupby(found, key=lambda solution: solution[0]):
-                state = _state(share.network.routers, [held for _, held in itertools.islice(of_class, MOST_SOLUTIONS)])
-                state = dataclasses.replace(state, is_whole=next(of_class, None) is None)
-                yield number, state
-                if not state.is_whole:
-                    first = number + 1
-                    break
+        found = dict(_written(share.network, f"{first}-{share.last}", share.task))
+        if found and not first <= min(found) <= max(found) <= share.last:
+            raise ProgramFailed(Status.DONE, f"{ASK} wrote of classes for which it was not asked")
+        yield from found.items()
+        first = next((number + 1 for number, written in found.items() if not written.is_whole), share.last + 1)
 
 
-def _state(routers: Sequence[str], solutions: Sequence[list[Held]]) -> State:
-    each = {name: frozenset(held) for name, held in zip(routers, zip(*solutions))}
-    return State(len(solutions), True, each)
-
-
-def _solutions(room: contextlib.ExitStack, network: Network, first: int, last: int) -> Iterator[tuple[int, list[Held]]]:
-    """Each solution of these classes: the number of the class, and what each router holds. The program lists them in one
-    order for `solutions` and `forwards`."""
-    outputs = [room.enter_context(_output(network, f"{first}-{last}", task)) for task in ("solutions", "forwards")]
-    count = len(network.routers)
-    for heads in itertools.zip_longest(*outputs, fillvalue=b""):
-        labels, forwards = (list(itertools.islice(output, count)) for output in outputs)
-        head = HEAD.fullmatch(heads[0]) if heads[0] == heads[1] else None
-        if not head or len(labels) < count or len(forwards) < count or not (labels[-1] + forwards[-1]).endswith(b"\n"):
-            # (where a program failed, its context says so at its end)
-            room.close()
-            raise ProgramFailed(Status.DONE, f"{ASK} did not list the same solutions twice")
-        yield int(head[1]), [(_behind(label), _behind(hops)) for label, hops in zip(labels, forwards)]
-
-
-def _behind(line: bytes) -> bytes:
-    """A line without its first word, the router's name."""
-    return line.partition(b" ")[2].rstrip(b"\n")
-
-
-@contextlib.contextmanager
-def _output(network: Network, classes: str, task: str) -> Iterator[Iterator[bytes]]:
-    """The lines that the program writes."""
+def _written(network: Network, classes: str, task: str) -> Iterator[tuple[int, Written]]:
+    """What the program writes, class by class."""
+    wrong = None
     with errors_of(network.name, network.text):
-        with program(ASK).output("F", classes, task, texts={"F": network.raw}) as lines:
-            yield lines
+        with program(ASK).output("F", classes, task, texts={"F": network.raw}) as stream:
+            try:
+                yield from read(stream)
+            except ValueError as fault:
+                # (where the program failed, the context says so at its end)
+                wrong = fault
+    if wrong:
+        raise ProgramFailed(Status.DONE, f"the program wrote what is of no known form: {wrong}") from wrong
 
 
 def _ties(network: Network, numbers: list[int]) -> dict[int, Tie | None]:
     """The ties of these classes. Costs do not tie: routes of one cost differ in nothing."""
-    if network.parsed.protocol != "bgp":
+    if not network.is_bgp:
         return {}
     found: dict[int, Tie | None] = {}
     for first, last in runs(numbers):
-        said = call(ASK, ["F", f"{first}-{last}", *ALWAYS_TRUE], network.text, network.name, done=IS_DONE)
+        said = call(ASK, ["F", f"{first}-{last}", *always_true(network)], network.text, network.name, done=IS_DONE)
         with reading(said):
             (report,) = reports_of(said.text)
             ties = {part.number: part.tie for part in report.parts if isinstance(part, ClassAnswer)}
             found |= {number: ties[number] for number in range(first, last + 1)}
     return found
+
+
+def always_true(network: Network) -> tuple[str, ...]:
+    """A question that is true in all labels, so that the program says nothing but whether there are some, and whether they
+    are tied. Whether a router lacks a community that no line has is decided faster than how long ways are."""
+    named = {int(number) for words in BEHIND_COMMUNITY.findall(network.raw) for number in re.findall(rb"\d+", words)}
+    free = next((number for number in FIRST_COMMUNITIES if number not in named), None)
+    return ALWAYS_TRUE if free is None else ("lacks", f"0:{free}", network.classes[0].origins[0])
 
 
 def runs(numbers: Iterable[int]) -> list[tuple[int, int]]:

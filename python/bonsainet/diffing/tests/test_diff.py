@@ -15,6 +15,7 @@ from bonsainet.diffing.reasons import reasons_of
 from bonsainet.diffing.words import change_lines, lines, listed
 from bonsainet.library.calls import ASK, program
 from bonsainet.library.changes import Change, Kind
+from bonsainet.library.pairs import Pair
 from bonsainet.library.routes import Aspect, Route
 from bonsainet.tests.asking import tool
 
@@ -37,7 +38,7 @@ def said(old: str, new: str) -> list[str]:
     """The lines of the difference. Its document fits the schema, and says whether anything changes."""
     before, after = bonsainet.Network.from_text(old, "old"), bonsainet.Network.from_text(new, "new")
     found = bonsainet.diff(before, after)
-    made = document(found, reasons_of(before, after), program(ASK).identity)
+    made = document(found, reasons_of(Pair(before, after)), program(ASK).identity)
     jsonschema.validate(made, SCHEMA)
     assert bool(made["changed"]) == bool(found)
     return list(lines(found))
@@ -98,6 +99,30 @@ def test_a_prefix_that_moves() -> None:
     found = said(DISAGREE, moved)
     assert found[:2] == ["prefixes that are gone: 10.0.0.0/24", "prefixes that are new: 10.9.0.0/24"]
     assert "  lost d: preference 100 length 0 here" in found and "  gained d: preference 100 length 0 here" in found
+
+
+def test_an_empty_side() -> None:
+    gone, new = said(CAMPUS, ""), said("", CAMPUS)
+    assert gone[0] == "routers that are gone: core1, core2, dist1, dist2, access1, access2"
+    assert "  lost dist1, dist2: cost 2 to core1 (TenGigabitEthernet1/1) and core2 (TenGigabitEthernet1/2)" in gone
+    assert "  gained dist1, dist2: cost 2 to core1 (TenGigabitEthernet1/1) and core2 (TenGigabitEthernet1/2)" in new
+    assert gone[-1] == new[-1] == "19 prefixes change, 0 stay as they are"
+    assert said("", "!\n") == ["0 prefixes change, 0 stay as they are"]
+
+
+def test_routers_in_another_order() -> None:
+    routers = re.findall(r".*?^end\n", CAMPUS, re.M | re.S)
+    other = CAMPUS.replace(" ip ospf cost 5\n", " ip ospf cost 7\n")
+    assert said(CAMPUS, "".join(routers[::-1])) == NOTHING
+    assert said(other, "".join(routers[3:] + routers[:3])) == said(other, CAMPUS)
+
+
+def test_routers_of_the_names_that_lines_begin_with() -> None:
+    named = DISAGREE.replace("hostname d\n", "hostname class\n").replace("hostname x\n", "hostname solution\n")
+    edited_too = named.replace(" set local-preference 200\n", " set local-preference 90\n")
+    plain = said(DISAGREE, DISAGREE.replace(" set local-preference 200\n", " set local-preference 90\n"))
+    wanted = [re.sub(r"\bto d\b", "to class", re.sub(r"\bx\b", "solution", line)) for line in plain]
+    assert said(named, edited_too) == wanted
 
 
 def test_a_session_that_is_shut() -> None:

@@ -20,6 +20,7 @@ from bonsainet.diffing.tests.mutations_prefixes import MUTATIONS as PREFIXES
 from bonsainet.diffing.tests.test_diff import SCHEMA
 from bonsainet.diffing.words import lines
 from bonsainet.library.calls import ASK, program
+from bonsainet.library.pairs import Pair
 
 MUTATIONS = [*LINKS, *PREFIXES, *BGP]
 
@@ -44,7 +45,7 @@ def before(base: str) -> bonsainet.Network:
 @pytest.mark.parametrize("mutation", MUTATIONS, ids=lambda one: one.name)
 def test_a_mutation(mutation: Mutation) -> None:
     old, new = before(mutation.base), imported(mutation.made())
-    found, reasons = bonsainet.diff(old, new), reasons_of(old, new)
+    found, reasons = bonsainet.diff(old, new), reasons_of(Pair(old, new))
     assert tuple(lines(found)) == mutation.answer
     assert tuple(f"{one.edit.router}: {one.edit.title}: {effect(one)}" for one in reasons.policies) == mutation.policies
     jsonschema.validate(document(found, reasons, program(ASK).identity), SCHEMA)

@@ -11,6 +11,7 @@ from bonsainet.diffing.pictures import COLORS, GONE, NEW, Drawer
 from bonsainet.diffing.reasons import reasons_of
 from bonsainet.library.calls import ASK, program
 from bonsainet.library.changes import Kind
+from bonsainet.library.pairs import Pair
 
 CAMPUS = (TOP / "examples" / "inputs" / "campus.cfg").read_text()
 SVG = "{http://www.w3.org/2000/svg}"
@@ -40,10 +41,10 @@ def test_the_page() -> None:
     old, new = bonsainet.Network.from_text(CAMPUS, "old"), bonsainet.Network.from_text(
         CAMPUS.replace(" ip ospf cost 5\n", " ip ospf cost 7\n"), "<new>"
     )
-    made = page(old, new, bonsainet.diff(old, new), reasons_of(old, new), program(ASK).identity)
+    made = page(old, new, bonsainet.diff(old, new), reasons_of(Pair(old, new)), program(ASK).identity)
     assert made.count("<svg") == 4 and COLORS[Kind.CHANGED] in made
     assert "changed core1, core2, dist1: cost 6 -&gt; 8" in made
     assert "&lt;new&gt;" in made and "<new>" not in made
     assert "http://" not in re.sub(r'xmlns="[^"]*"', "", made) and "<script" not in made
-    same = page(old, old, bonsainet.diff(old, old), reasons_of(old, old), program(ASK).identity)
+    same = page(old, old, bonsainet.diff(old, old), reasons_of(Pair(old, old)), program(ASK).identity)
     assert "0 prefixes change, 19 stay as they are." in same and "<svg" not in same

@@ -6,6 +6,7 @@ from bonsainet.ask.program import TOP
 from bonsainet.configs.text import Line, Place
 from bonsainet.diffing.reason_words import line_words, reason_lines
 from bonsainet.diffing.reasons import reasons_of
+from bonsainet.library.pairs import Pair
 
 INPUTS = TOP / "examples" / "inputs"
 CAMPUS = (INPUTS / "campus.cfg").read_text()
@@ -16,7 +17,7 @@ FABRIC = (INPUTS / "fabric.cfg").read_text()
 def said(old: str, new: str) -> list[str]:
     """The lines of the reasons."""
     before, after = bonsainet.Network.from_text(old, "old"), bonsainet.Network.from_text(new, "new")
-    return list(reason_lines(reasons_of(before, after)))
+    return list(reason_lines(reasons_of(Pair(before, after))))
 
 
 def test_nothing() -> None:

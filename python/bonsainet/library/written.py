@@ -1,0 +1,110 @@
+"""What `bonsai-ask` writes for `solutions` and `forwards`, class by class and as it stands: most of it is the same on both
+sides of a comparison, and is never read."""
+from __future__ import annotations
+
+import dataclasses
+import re
+from collections.abc import Iterator, Sequence
+from typing import IO
+
+MOST_SOLUTIONS = 64
+BLOCK = 1 << 20
+CLASS = b"\nclass "
+HEAD = re.compile(rb"(\d+) solution (\d+)(?:\n|\Z)")
+
+
+@dataclasses.dataclass(frozen=True)
+class Written:
+    """What is written of the solutions of a class, of each a line for each router: as it stands where there is one solution,
+    line by line where there are several. Of more than 64 solutions the first 64 are kept."""
+
+    solutions: tuple[bytes | tuple[bytes, ...], ...] = ()
+    is_whole: bool = True
+
+    def lines(self) -> list[Sequence[bytes]]:
+        """The lines of each solution."""
+        return [found.split(b"\n") if isinstance(found, bytes) else found for found in self.solutions]
+
+    @property
+    def lengths(self) -> list[int]:
+        """How many lines each solution has."""
+        return [found.count(b"\n") + 1 if isinstance(found, bytes) else len(found) for found in self.solutions]
+
+    @property
+    def only(self) -> bytes | None:
+        """What is written of the one solution, none where there are several, or none."""
+        (found,) = self.solutions if len(self.solutions) == 1 else (None,)
+        return found if isinstance(found, bytes) and self.is_whole else None
+
+
+def read(stream: IO[bytes]) -> Iterator[tuple[int, Written]]:
+    """The classes in a stream, each with its number. The last one is one with more than 64 solutions, if there is any: the
+    stream is not read any further. ValueError where what is written is of no known form."""
+    number, kept = 0, _Kept()
+    for of, place, lines in _solutions(stream):
+        if of < number or place != (1 if of != number else len(kept.solutions) + 1):
+            raise ValueError(f"class {of} solution {place} is not in its place")
+        if of != number and number:
+            yield number, Written(tuple(kept.solutions))
+        if of != number:
+            number, kept = of, _Kept()
+        if place > MOST_SOLUTIONS:
+            yield number, Written(tuple(kept.solutions), False)
+            return
+        kept.add(lines)
+    if number:
+        yield number, Written(tuple(kept.solutions))
+
+
+class _Kept:
+    """The solutions of a class. Of several each line is kept once, since routers hold few routes in many solutions."""
+
+    def __init__(self) -> None:
+        self.solutions: list[bytes | tuple[bytes, ...]] = []
+        self.lines: dict[bytes, bytes] = {}
+
+    def add(self, lines: bytes) -> None:
+        """Adds one."""
+        if len(self.solutions) == 1:
+            (first,) = self.solutions
+            assert isinstance(first, bytes)
+            self.solutions = [self._cut(first)]
+        self.solutions.append(self._cut(lines) if self.solutions else lines)
+
+    def _cut(self, lines: bytes) -> tuple[bytes, ...]:
+        return tuple(self.lines.setdefault(line, line) for line in lines.split(b"\n"))
+
+
+def _solutions(stream: IO[bytes]) -> Iterator[tuple[int, int, bytes]]:
+    """For each solution the number of its class, its place, and its lines."""
+    left = b"\n"
+    while more := stream.read(BLOCK):
+        left += more
+        if CLASS in left:
+            # (the last one is not whole yet, and may have no whole head)
+            *whole, last = _cut(left)
+            yield from map(_solution, whole)
+            left = CLASS + last
+    if left != b"\n":
+        if CLASS not in left or not left.endswith(b"\n"):
+            raise ValueError(f"no solution: {left[:40]!r}")
+        yield from map(_solution, _cut(left))
+
+
+def _cut(text: bytes) -> list[bytes]:
+    """A text at the heads of solutions. A router may be called `class`, so that its lines begin as heads do."""
+    first, *others = text.split(CLASS)[1:]
+    found = [[first]]
+    for piece in others:
+        if HEAD.match(piece):
+            found.append([piece])
+        else:
+            found[-1].append(piece)
+    return [CLASS.join(pieces) for pieces in found]
+
+
+def _solution(text: bytes) -> tuple[int, int, bytes]:
+    head = HEAD.match(text)
+    if not head:
+        raise ValueError(f"no head of a solution: {text[:40]!r}")
+    return int(head[1]), int(head[2]), text[head.end() :].removesuffix(b"\n")
