@@ -2,6 +2,7 @@
 from __future__ import annotations
 
 import argparse
+import json
 from collections.abc import Iterable, Iterator
 
 from bonsainet.ask.accepted import a_class, class_of
@@ -12,6 +13,7 @@ from bonsainet.diffing.sides import network_at, place_of, refusing, say_changes
 from bonsainet.diffing.words import listed
 from bonsainet.library.calls import BONSAI, program
 from bonsainet.why.certificate import Reading
+from bonsainet.why.documents import document
 from bonsainet.why.explain import Cause, Edge, Why, acts_words, why
 
 NAME = "bonsai-why"
@@ -42,6 +44,7 @@ def words() -> argparse.ArgumentParser:
     made.add_argument(
         "--own-as", action="store_true", help="give each router of a shared AS number a number of its own"
     )
+    made.add_argument("--json", action="store_true", help="write the answer as one JSON document")
     return made
 
 
@@ -55,7 +58,10 @@ def main(argv: list[str] | None = None) -> int:
         number = class_of(program(BONSAI).classes(network.raw), given.number, network.name).number
         reading = Reading.of_class(network.class_of(number))
         reason = why(reading, given.one, given.other)
-    print("\n".join(lines(reading, given.one, given.other, reason)))
+    if given.json:
+        print(json.dumps(document(reading, given.one, given.other, reason, program(BONSAI).identity), indent=1))
+    else:
+        print("\n".join(lines(reading, given.one, given.other, reason)))
     return 0
 
 

@@ -1,20 +1,25 @@
 """Why two routers are not in one group: for each two groups of the examples, and as words for people."""
 from __future__ import annotations
 
+import json
 from itertools import combinations
 from pathlib import Path
 
+import jsonschema
 import pytest
 
 import bonsainet
 from bonsainet.ask.program import TOP
 from bonsainet.nets.random_networks import random_text
 from bonsainet.tests.asking import tool
+from bonsainet.library.calls import BONSAI, program
 from bonsainet.why.certificate import Reading
+from bonsainet.why.documents import document
 from bonsainet.why.explain import Cause, why
 from bonsainet.why.tool import lines
 
 INPUTS = TOP / "examples" / "inputs"
+SCHEMA = json.loads((TOP / "docs" / "data" / "bonsai-why.schema.json").read_text())
 
 
 def said(name: str, number: int | str, one: str, other: str) -> list[str]:
@@ -96,12 +101,36 @@ def _each_two_groups(text: str) -> None:
             continue
         for one, other in combinations([group.members[-1] for group in reading.groups][:6], 2):
             reason = why(reading, one, other)
+            jsonschema.validate(document(reading, one, other, reason, program(BONSAI).identity), SCHEMA)
             assert reason and {reason.first, reason.second} == {one, other}
             if reason.cause is Cause.EDGE:
                 assert reason.step and reason.first in reason.step.taken and reason.second in reason.step.left
                 assert reason.edges and not any(
                     reason.step.act in edge.acts for edge in reason.others if len(edge.acts) == 1
                 )
+
+
+def test_a_document() -> None:
+    reading = Reading.of_class(bonsainet.Network.from_text((INPUTS / "fat-tree-4.cfg").read_text(), "F").class_of(1))
+    made = document(reading, "agg0-0", "agg1-0", why(reading, "agg0-0", "agg1-0"), program(BONSAI).identity)
+    jsonschema.validate(made, SCHEMA)
+    assert (made["form"], made["class"], made["group"]) == (1, 1, None)
+    reason = made["why"]
+    assert (reason["cause"], reason["first"], reason["second"]) == ("edge", "agg0-0", "agg1-0")
+    assert "agg0-0" in reason["split"]["taken"] and "agg1-0" in reason["split"]["left"]
+    assert reason["split"]["into"] == ["edge0-0"] and reason["edges"][0]["exporter"] == "edge0-0"
+    assert reason["others"] == [] and reason["elsewhere"][0]["exporter"] == "core0"
+    because = reason["because"]
+    assert (because["cause"], because["first"], because["second"]) == ("origin", "edge0-0", "core0")
+    assert because["parts"][1] == {"router": "core0", "words": "does not originate 10.0.0.0/24", "lines": []}
+    assert because["parts"][0]["lines"][0] == {"file": "F", "line": 117, "text": " ip address 10.0.0.1 255.255.255.0"}
+
+
+def test_a_document_of_one_group(tmp_path: Path) -> None:
+    made = json.loads(tool("bonsai-why", "--json", INPUTS / "campus.cfg", "10.0.0.0/30", "access1", "access2").stdout)
+    jsonschema.validate(made, SCHEMA)
+    assert (made["group"], made["why"]) == (["access1", "access2"], None)
+    assert made["prefixes"] == ["10.0.0.0/30"] and made["routers"] == ["access1", "access2"]
 
 
 def test_the_tool(tmp_path: Path) -> None:
