@@ -62,8 +62,10 @@ def _devices(network: Network, known: dict[str, Device]) -> list[Device]:
         return [known.get(text) or device_of(router) for router, (_, text) in routers]
     found: list[Device] = []
     for number, text in router_texts(network.text):
-        device = known.get(text)
-        found += [device] if device else map(device_of, routers_of(lines_of(text, network.name, number)))
+        if text in known:
+            found.append(known[text])
+        else:
+            found += map(device_of, routers_of(lines_of(text, network.name, number)))
     return found
 
 

@@ -3,17 +3,21 @@ from __future__ import annotations
 
 import json
 import re
+import subprocess
 from pathlib import Path
+from typing import Any
 
 import jsonschema
 import pytest
 
 import bonsainet
-from bonsainet.ask.program import TOP
+from bonsainet.ask.program import ALL, TOP
 from bonsainet.diffing.documents import document
 from bonsainet.diffing.reasons import reasons_of
+from bonsainet.diffing.tool import compared
 from bonsainet.diffing.words import change_lines, lines, listed
-from bonsainet.library.calls import ASK, program
+from bonsainet.library import states
+from bonsainet.library.calls import ASK, BONSAI, program
 from bonsainet.library.changes import Change, Kind
 from bonsainet.library.pairs import Pair
 from bonsainet.library.routes import Aspect, Route
@@ -228,6 +232,29 @@ def test_folders_and_refusals(tmp_path: Path) -> None:
     (tmp_path / "bad.cfg").write_text("hostname a\nnonsense\n")
     bad = tool("bonsai-diff", INPUTS / "campus.cfg", tmp_path / "bad.cfg")
     assert bad.returncode == 1 and b"line 2: " in bad.stderr
+
+
+def test_no_process_is_there_for_each_class(monkeypatch: pytest.MonkeyPatch) -> None:
+    tree = text_of("fat-tree-4.cfg")
+    sides = [
+        bonsainet.Network.from_text(text) for text in (tree, edited(tree, " send-community", " shutdown", "agg0-0"))
+    ]
+    asked: list[str] = []
+    started: Any = subprocess.Popen
+
+    def run(words: list[str], **named: Any) -> Any:
+        at = next((at for at, word in enumerate(words) if word.startswith("/proc/self/fd/")), len(words))
+        asked.append(" ".join(words[at + 1 :]))
+        return started(words, **named)
+
+    # (each program is found once, by its launcher)
+    assert all(program(name).path for name in (BONSAI, ASK, ALL))
+    monkeypatch.setattr(states, "processors", lambda: 4)
+    monkeypatch.setattr(subprocess, "Popen", run)
+    found, _ = compared(Pair(*sides))
+    assert len(found.changed) == 2 and len(sides[0].classes) == 8
+    ties = "1-8 lacks 0:1 edge0-0"
+    assert sorted(asked) == sorted(2 * ["1-8 solutions", "1-8 forwards", ties, "canon 1 8"])
 
 
 def test_many_names_are_counted() -> None:
