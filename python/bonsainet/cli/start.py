@@ -155,6 +155,11 @@ def bench_diagrams(words: list[str] | None = None) -> int:
     return start("diagrams", "bonsainet.bench.diagrams:main", words)
 
 
+def bench_difference(words: list[str] | None = None) -> int:
+    """Runs `bench/difference`."""
+    return start("difference", "bonsainet.bench.difference:main", words)
+
+
 def bench_imports(words: list[str] | None = None) -> int:
     """Runs `bench/imports`."""
     return start("imports", "bonsainet.bench.imports:main", words)
