@@ -1,8 +1,11 @@
 """What the library says where a program crashes, ends within its answer, or is another one."""
 from __future__ import annotations
 
+import os
+import signal
 import subprocess
 import sys
+import time
 from collections.abc import Callable
 from pathlib import Path
 
@@ -129,3 +132,23 @@ def test_standard_streams_that_are_closed(tmp_path: Path) -> None:
         ["sh", "-c", 'exec "$@" <&- >&- 2>&-', "sh", sys.executable, "-c", script], cwd=TOP / "python", check=False
     )
     assert ran.returncode == 0 and told.read_text() == "()"
+
+
+@pytest.mark.parametrize("number", [signal.SIGTERM, signal.SIGKILL])
+def test_a_question_ends_where_its_caller_is_killed(number: signal.Signals, tmp_path: Path) -> None:
+    slow, started = tmp_path / "slow", tmp_path / "started"
+    slow.write_text(f"#!/bin/sh\necho $$ > {started}.new\nmv {started}.new {started}\nexec sleep 600\n")
+    slow.chmod(0o755)
+    script = f"from bonsainet.ask.program import Program; Program({str(slow)!r}, 'bonsai-ask').ask('F')"
+    with subprocess.Popen([sys.executable, "-c", script], cwd=TOP / "python") as caller:
+        assert _comes_true(started.exists)
+        caller.send_signal(number)
+    assert _comes_true(lambda: not os.path.exists(f"/proc/{started.read_text().strip()}"))
+
+
+def _comes_true(is_true: Callable[[], bool]) -> bool:
+    """Whether something is true before a minute is over."""
+    until = time.monotonic() + 60
+    while not is_true() and time.monotonic() < until:
+        time.sleep(0.05)
+    return is_true()
