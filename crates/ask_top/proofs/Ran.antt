@@ -15,28 +15,28 @@ use Rattle.network_files.specs.NetworkFiles.{IsOfFile}
 use Rattle.ask_words.specs.Commands.{command_of, file_of, class_word_of, second_of}
 use Rattle.ask_words.specs.declared.request.Command.{Command}
 use Rattle.ask_top.specs.Outcomes.{ask_usage, IsOfCommand, IsOfWords, IsAskOutcome}
-use Rattle.ask_top.specs.Reads.{NetworkRose, QuestionsRose}
+use Rattle.ask_top.specs.Reads.{NetworkRose, QuestionsFailed}
 
 module _ (words : List (List ℕ)) (contents : List ℕ → Option (List ℕ)) where
   -- what is found for a command is an outcome of its words
   pub finds_words : (finding : Finding) (asked : Command) (first class second : List ℕ) (old new : List ℕ → ℕ) → command_of words ≡ Some asked →
       first ≡ file_of words → class ≡ class_word_of words → second ≡ second_of words →
-      Finds finding (IsOfFile (IsOfCommand asked class (contents second)) (contents first)) (Rose (old first) (new first)) (QuestionsRose (Some asked) (old second) (new second)) →
+      Finds finding (IsOfFile (IsOfCommand asked class (contents second)) (contents first)) (Rose (old first) (new first)) (QuestionsFailed (Some asked) (contents first) (old second) (new second)) →
       Finds finding (IsAskOutcome words contents) (NetworkRose (command_of words) (old (file_of words)) (new (file_of words)))
-      (QuestionsRose (command_of words) (old (second_of words)) (new (second_of words)))
+      (QuestionsFailed (command_of words) (contents (file_of words)) (old (second_of words)) (new (second_of words)))
   unfolding IsAskOutcome
   finds_words finding asked first class second old new is first_is class_is second_is finds =
-      let by_first = subst (λ (t : List ℕ). Finds finding (IsOfFile (IsOfCommand asked class (contents second)) (contents t)) (Rose (old t) (new t)) (QuestionsRose (Some asked) (old second) (new second)))
+      let by_first = subst (λ (t : List ℕ). Finds finding (IsOfFile (IsOfCommand asked class (contents second)) (contents t)) (Rose (old t) (new t)) (QuestionsFailed (Some asked) (contents t) (old second) (new second)))
       first_is finds in
       let by_class = subst (λ (t : List ℕ). Finds finding (IsOfFile (IsOfCommand asked t (contents second)) (contents (file_of words))) (Rose (old (file_of words)) (new (file_of words)))
-      (QuestionsRose (Some asked) (old second) (new second))) class_is by_first in
+      (QuestionsFailed (Some asked) (contents (file_of words)) (old second) (new second))) class_is by_first in
       let by_second = subst (λ (t : List ℕ). Finds finding (IsOfFile (IsOfCommand asked (class_word_of words) (contents t)) (contents (file_of words)))
-      (Rose (old (file_of words)) (new (file_of words))) (QuestionsRose (Some asked) (old t) (new t))) second_is by_class in
+      (Rose (old (file_of words)) (new (file_of words))) (QuestionsFailed (Some asked) (contents (file_of words)) (old t) (new t))) second_is by_class in
       let A : Telling → Type 0 = IsOfFile (IsOfCommand asked (class_word_of words) (contents (second_of words))) (contents (file_of words)) in
       subst (λ (c : Option Command). Finds finding (IsOfWords c (class_word_of words) (contents (file_of words)) (contents (second_of words)))
-      (NetworkRose c (old (file_of words)) (new (file_of words))) (QuestionsRose c (old (second_of words)) (new (second_of words)))) (sym is)
+      (NetworkRose c (old (file_of words)) (new (file_of words))) (QuestionsFailed c (contents (file_of words)) (old (second_of words)) (new (second_of words)))) (sym is)
       (finds_as finding A A (Rose (old (file_of words)) (new (file_of words))) (NetworkRose (Some asked) (old (file_of words)) (new (file_of words)))
-      (QuestionsRose (Some asked) (old (second_of words)) (new (second_of words))) (QuestionsRose (Some asked) (old (second_of words)) (new (second_of words)))
+      (QuestionsFailed (Some asked) (contents (file_of words)) (old (second_of words)) (new (second_of words))) (QuestionsFailed (Some asked) (contents (file_of words)) (old (second_of words)) (new (second_of words)))
       (λ o a. a) (λ r. (refl, r)) (λ s. s) by_second)
 
   -- words of no form
@@ -86,7 +86,7 @@ module _ (words : List (List ℕ)) (contents : List ℕ → Option (List ℕ)) (
   First = NetworkRose (command_of words) (old (file_of words)) (new (file_of words))
 
   abbrev Second : Type 0
-  Second = QuestionsRose (command_of words) (old (second_of words)) (new (second_of words))
+  Second = QuestionsFailed (command_of words) (contents (file_of words)) (old (second_of words)) (new (second_of words))
 
   abbrev Runs : Type 0
   Runs = RunMeets (IsAskOutcome words contents) (file_of words) (second_of words) First Second result out_old out_new out_before out_now err_old err_new err_before err_now
@@ -96,7 +96,7 @@ module _ (words : List (List ℕ)) (contents : List ℕ → Option (List ℕ)) (
 
   module _ (finding : Finding) (asked : Command) (first class second : List ℕ) (is : command_of words ≡ Some asked)
       (first_is : first ≡ file_of words) (class_is : class ≡ class_word_of words) (second_is : second ≡ second_of words)
-      (finds : Finds finding (IsOfFile (IsOfCommand asked class (contents second)) (contents first)) (Rose (old first) (new first)) (QuestionsRose (Some asked) (old second) (new second)))
+      (finds : Finds finding (IsOfFile (IsOfCommand asked class (contents second)) (contents first)) (Rose (old first) (new first)) (QuestionsFailed (Some asked) (contents first) (old second) (new second)))
       (told : Told (told_by finding ask_usage first second)) where
     told_words : Told (told_by finding ask_usage (file_of words) (second_of words))
     told_words = subst (λ (t : List ℕ). Told (told_by finding ask_usage (file_of words) t)) second_is

@@ -6,7 +6,7 @@ ghost use Rattle.endings.specs.Telling.{refused};
 ghost use Rattle.io_kit.specs.Ends.{Rose};
 ghost use Rattle.network_files.specs.NetworkFiles.{IsOfFile};
 ghost use Rattle.ask_top.specs.Outcomes.{long_questions, IsOfCommand, IsOfQuestionFile};
-ghost use Rattle.ask_top.specs.Reads.{QuestionsRose};
+ghost use Rattle.ask_top.specs.Reads.{QuestionsFailed, QuestionsRose};
 
 use ask_answers::{answer, answers};
 use ask_words::Command;
@@ -72,7 +72,8 @@ pub(crate) fn found<S: Source>(
     files: &mut S,
 ) -> Finding
     ensures finds { Finds result (IsOfFile (IsOfCommand command.now class.now (S.contents files.old second.now)) (S.contents files.old first.now))
-        (Rose (S.faults files.old first.now) (S.faults files.new first.now)) (QuestionsRose (Some command.now) (S.faults files.old second.now) (S.faults files.new second.now)) }
+        (Rose (S.faults files.old first.now) (S.faults files.new first.now))
+        (QuestionsFailed (Some command.now) (S.contents files.old first.now) (S.faults files.old second.now) (S.faults files.new second.now)) }
     ensures contents { S.contents files.new ≡ S.contents files.old }
     ensures later { (n : List ℕ) → S.faults files.old n ≤ S.faults files.new n }
 {

@@ -6,7 +6,7 @@ ghost use Rattle.endings.specs.Meets.{RunMeets};
 ghost use Rattle.ask_words.specs.Commands.{command_of, file_of, second_of};
 ghost use Rattle.ask_words.specs.Words.{bytes_of_words};
 ghost use Rattle.ask_top.specs.Outcomes.{IsAskOutcome};
-ghost use Rattle.ask_top.specs.Reads.{NetworkRose, QuestionsRose};
+ghost use Rattle.ask_top.specs.Reads.{NetworkRose, QuestionsFailed};
 
 use crate::findings::found;
 use ask_words::{class_word, file_word, read_words, second_word};
@@ -30,7 +30,7 @@ pub fn run<S: Source, O: Sink, E: Sink>(
     // that memory ran out.
     ensures meets { RunMeets (IsAskOutcome (bytes_of_words words.now) (S.contents files.old)) (file_of (bytes_of_words words.now)) (second_of (bytes_of_words words.now))
         (NetworkRose (command_of (bytes_of_words words.now)) (S.faults files.old (file_of (bytes_of_words words.now))) (S.faults files.new (file_of (bytes_of_words words.now))))
-        (QuestionsRose (command_of (bytes_of_words words.now)) (S.faults files.old (second_of (bytes_of_words words.now))) (S.faults files.new (second_of (bytes_of_words words.now)))) result
+        (QuestionsFailed (command_of (bytes_of_words words.now)) (S.contents files.old (file_of (bytes_of_words words.now))) (S.faults files.old (second_of (bytes_of_words words.now))) (S.faults files.new (second_of (bytes_of_words words.now)))) result
         (O.taken out.old) (O.taken out.new) (O.faults out.old) (O.faults out.new) (E.taken err.old) (E.taken err.new) (E.faults err.old) (E.faults err.new) }
 
     // Only words of no form are misuse, and no others come to anything else, unless memory runs out. If the words are of
@@ -48,7 +48,7 @@ pub fn run<S: Source, O: Sink, E: Sink>(
     // A fault has its cause, whether the files are told or not.
     ensures read_fault { result ≡ Ending.ReadFault → IsSome (command_of (bytes_of_words words.now))
         × (NetworkRose (command_of (bytes_of_words words.now)) (S.faults files.old (file_of (bytes_of_words words.now))) (S.faults files.new (file_of (bytes_of_words words.now)))
-        ⊎ QuestionsRose (command_of (bytes_of_words words.now)) (S.faults files.old (second_of (bytes_of_words words.now))) (S.faults files.new (second_of (bytes_of_words words.now)))) }
+        ⊎ QuestionsFailed (command_of (bytes_of_words words.now)) (S.contents files.old (file_of (bytes_of_words words.now))) (S.faults files.old (second_of (bytes_of_words words.now))) (S.faults files.new (second_of (bytes_of_words words.now)))) }
     ensures write_fault { result ≡ Ending.WriteFault → Rose (E.faults err.old) (E.faults err.new) ⊎ Rose (O.faults out.old) (O.faults out.new) }
 {
     let first = file_word(words);
