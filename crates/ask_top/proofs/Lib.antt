@@ -1,1 +1,7 @@
+mod AsMany
+mod LeftAlike
+mod OneOutcome
 mod Ran
+mod SameParts
+mod SameReports
+mod SameVerdicts
