@@ -88,6 +88,11 @@ class Row:
     started: float
     load: float
 
+    @property
+    def key(self) -> tuple[str, ...]:
+        """What was compared, and by which tool."""
+        return self.network, self.sides, self.tool
+
 
 def words() -> argparse.ArgumentParser:
     """The words of the command line."""
@@ -110,23 +115,26 @@ def main(argv: list[str] | None = None) -> None:
     given = words().parse_args(argv)
     tools = {"now": TOP} | ({"before": Path(given.before).resolve()} if given.before else {})
     programs = {name: named(name).path for name in (BONSAI, ASK, ALL)}
-    rows = []
+    told = in_ascii(f"{', '.join(f'{name} ({kind(Path(path))})' for name, path in programs.items())}; {machine()}")
+    rows = kept_of(told) if given.keep else []
     for case in [case for case in CASES if case.network in (given.network or [case.network])]:
         for row in measured(case, given.sides or ("texts", "folders"), tools, given.runs):
-            rows.append(row)
+            processors = f"{row.own:.2f} + {row.started:.2f} s of processors"
             print(
-                f"{row.tool}: {row.network}, {row.sides}: {row.seconds:.2f} s, {row.own:.2f} + {row.started:.2f} s of processors, load {row.load:.0f}",
+                f"{row.tool}: {row.network}, {row.sides}: {row.seconds:.2f} s, {processors}, load {row.load:.0f}",
                 flush=True,
             )
+            rows = sorted([one for one in rows if one.key != row.key] + [row], key=lambda one: one.key)
             if given.keep:
-                keep(
-                    rows,
-                    in_ascii(
-                        f"{', '.join(f'{name} ({kind(Path(path))})' for name, path in programs.items())}; {machine()}"
-                    ),
-                )
+                keep(rows, told)
     if given.keep:
         PAGE.write_text(with_table(PAGE.read_text("utf-8"), *read()), "utf-8")
+
+
+def kept_of(told: str) -> list[Row]:
+    """The rows that are kept of these programs on this machine."""
+    first, rows = read() if KEPT.is_file() else ("", [])
+    return rows if first == told else []
 
 
 def measured(case: Case, forms: Iterable[str], tools: dict[str, Path], runs: int) -> Iterator[Row]:
