@@ -25,7 +25,7 @@ use Rattle.ask_requests.specs.Faults.{request_fault}
 use Rattle.ask_requests.specs.declared.fault.Fault.{Fault}
 use Rattle.ask_answers.specs.Questions.{lines_fault, IsLineReport, IsOfLines, IsOfQuestions}
 use Rattle.ask_answers.specs.Reports.{manner_of, IsAnswered, IsOfRequest}
-use Rattle.ask_top.specs.OneOutcome.{AreAllAlike, AreAnsweredAlike, AreDoneAlike, AreJoinedAlike, AreLinesAlike, AreOutcomesAlike, ArePartsAlike, AreReportsAlike, AreTold, AreWrittenAlike, AskCountIsOne, AskEndingIsOne, AskOutcomeIsOne}
+use Rattle.ask_top.specs.OneOutcome.{AreAllAlike, AreAnsweredAlike, AreDoneAlike, AreJoinedAlike, AreLinesAlike, AreOutcomesAlike, ArePartsAlike, AreReportsAlike, AreContentsKnown, AreWrittenAlike, AskCountIsOne, AskEndingIsOne, AskOutcomeIsOne}
 use Rattle.ask_top.specs.Outcomes.{questions_limit, IsAskOutcome, IsOfCommand, IsOfQuestionFile, IsOfQuestionText, IsOfWords}
 use Rattle.ask_top.specs.Reads.{reads_network, reads_questions}
 use Rattle.ask_top.proofs.SameReports.{joined_alike, lines_alike, reports_alike}

@@ -30,8 +30,8 @@ use Rattle.ask_answers.specs.Reports.{manner_of}
 use Rattle.ask_top.specs.Outcomes.{IsAskOutcome}
 use Rattle.ask_top.specs.Reads.{reads_network, reads_questions}
 
--- the files that are read are told
-pub record AreTold (words : List (List ℕ)) (contents : List ℕ → Option (List ℕ)) : Type 0 where
+-- the contents of the files that are read are known
+pub record AreContentsKnown (words : List (List ℕ)) (contents : List ℕ → Option (List ℕ)) : Type 0 where
   pub first : reads_network (command_of words) ≡ true → IsSome (contents (file_of words))
   pub second : reads_questions (command_of words) ≡ true → IsSome (contents (second_of words))
 
@@ -157,15 +157,15 @@ AreOutcomesAlike (Some command) file questions o p = (o ≡ p) ⊎ AreDoneAlike 
 
 -- two outcomes that the words allow over files that are told are one, but for what is free
 abbrev pub AskOutcomeIsOne : Type 0
-AskOutcomeIsOne = (words : List (List ℕ)) (contents : List ℕ → Option (List ℕ)) → AreTold words contents → (o p : Telling) → IsAskOutcome words contents o
+AskOutcomeIsOne = (words : List (List ℕ)) (contents : List ℕ → Option (List ℕ)) → AreContentsKnown words contents → (o p : Telling) → IsAskOutcome words contents o
     → IsAskOutcome words contents p → AreOutcomesAlike (command_of words) (contents (file_of words)) (contents (second_of words)) o p
 
 -- they have one ending, and one line
 abbrev pub AskEndingIsOne : Type 0
-AskEndingIsOne = (words : List (List ℕ)) (contents : List ℕ → Option (List ℕ)) → AreTold words contents → (o p : Telling) → IsAskOutcome words contents o
+AskEndingIsOne = (words : List (List ℕ)) (contents : List ℕ → Option (List ℕ)) → AreContentsKnown words contents → (o p : Telling) → IsAskOutcome words contents o
     → IsAskOutcome words contents p → (o.ending ≡ p.ending) × (o.err ≡ p.err)
 
 -- of `count` they are equal
 abbrev pub AskCountIsOne : Type 0
 AskCountIsOne = (words : List (List ℕ)) (contents : List ℕ → Option (List ℕ)) (request : Request) → command_of words ≡ Some (command.One request)
-    → request.task ≡ task.Count → AreTold words contents → (o p : Telling) → IsAskOutcome words contents o → IsAskOutcome words contents p → o ≡ p
+    → request.task ≡ task.Count → AreContentsKnown words contents → (o p : Telling) → IsAskOutcome words contents o → IsAskOutcome words contents p → o ≡ p
