@@ -84,8 +84,8 @@ def test_the_checks_that_are_at_work(tmp_path: Path) -> None:
         start_new_session=True,
     )
     try:
-        wait_for(lambda: at_work(shell.pid))
-        assert [(work.crate, work.part) for work in at_work(shell.pid)] == [("low", "proof")]
+        # (a child of the shell has its words for a moment)
+        wait_for(lambda: [(work.crate, work.part) for work in at_work(shell.pid)] == [("low", "proof")])
     finally:
         os.killpg(shell.pid, signal.SIGKILL)
         shell.wait()

@@ -1,6 +1,7 @@
 """What may only shrink: the list of modules in which mypy leaves errors out, and the words of README."""
 from __future__ import annotations
 
+import re
 import tomllib
 
 from bonsainet.ask.program import TOP
@@ -15,4 +16,6 @@ def test_the_modules_with_errors_left_out() -> None:
 
 
 def test_the_words_of_readme() -> None:
-    assert len((TOP / "README.md").read_text("utf-8").split()) <= MOST_WORDS
+    """A bar between the cells of a table is no word."""
+    words = [word for word in (TOP / "README.md").read_text("utf-8").split() if re.search(r"\w", word)]
+    assert len(words) <= MOST_WORDS
