@@ -9,7 +9,7 @@ use crate::parts::parts;
 use crate::request::Lost;
 use base_kit::{List, NoMemory, Text};
 use cfg_words::marks::{behind, has, place_of};
-use numbered_names::NamePlaces;
+use numbered_names::{NameHashing, NamePlaces};
 use std::alloc::Global;
 
 // All links between two different routers.
@@ -118,7 +118,7 @@ fn down_among(alloc: Global, parts: &[&[u8]]) -> Result<Option<List<Lost>>, NoMe
 {
     let mut items = List::new(alloc);
     let mut words = List::new(alloc);
-    let mut places = NamePlaces::new(alloc);
+    let mut places = NamePlaces::new(alloc, NameHashing::of_words(parts));
     for part in parts {
         let Some(item) = lost(alloc, part)? else {
             return Ok(None);

@@ -8,7 +8,7 @@ use crate::parts::parts;
 use crate::request::Routers;
 use base_kit::{List, NoMemory, Text};
 use cfg_words::{copy_of, is_router_name};
-use numbered_names::NamePlaces;
+use numbered_names::{NameHashing, NamePlaces};
 use std::alloc::Global;
 
 /// The name of a router, if the word may be one.
@@ -55,7 +55,7 @@ fn names_among(alloc: Global, parts: &[&[u8]]) -> Result<Option<List<Text>>, NoM
     ensures { IfOk result (λ names. names ≡ names_from (Some []) (map (λ part. part.now) parts.now)) }
 {
     let mut names = List::new(alloc);
-    let mut places = NamePlaces::new(alloc);
+    let mut places = NamePlaces::new(alloc, NameHashing::of_words(parts));
     for part in parts {
         let Some(name) = name_in(alloc, part)? else {
             return Ok(None);

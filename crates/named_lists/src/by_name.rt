@@ -5,7 +5,7 @@ ghost use Rattle.std.specs.List.{list_any};
 
 use crate::room::pushed;
 use base_kit::{List, NoMemory};
-use numbered_names::{HasName, NamePlaces};
+use numbered_names::{HasName, NameHashing, NamePlaces};
 use std::alloc::Global;
 use std::marker::Model;
 
@@ -28,13 +28,13 @@ impl<T: HasName + Drop> Model for ByName<T> {
 }
 
 impl<T: HasName + Drop> ByName<T> {
-    /// None at all.
-    pub fn new(alloc: Global) -> Self
+    /// None at all. The names of those that will be put in are hashed as given.
+    pub fn new(alloc: Global, hashing: NameHashing) -> Self
         ensures { result ≡ [] }
     {
         ByName {
             items: List::new(alloc),
-            places: NamePlaces::new(alloc),
+            places: NamePlaces::new(alloc, hashing),
         }
     }
 
@@ -63,7 +63,7 @@ impl<T: HasName + Drop> ByName<T> {
         ensures ok { OnOk result (self.new ≡ self.old ++ item ∷ []) }
         ensures err { OnErr result (self.new ≡ []) }
     {
-        let all = std::mem::replace(self, ByName::new(alloc));
+        let all = std::mem::replace(self, ByName::new(alloc, NameHashing::plain()));
         *self = all.with(alloc, item)?;
         Ok(())
     }

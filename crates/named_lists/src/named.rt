@@ -6,7 +6,7 @@ ghost use Rattle.named_lists.specs.NamedLists.{list_at, entries_at, with_last, i
 
 use crate::room::pushed;
 use base_kit::{List, NoMemory, Text};
-use numbered_names::{HasName, NamePlaces};
+use numbered_names::{HasName, NameHashing, NamePlaces};
 use std::alloc::Global;
 use std::marker::Model;
 
@@ -46,13 +46,13 @@ impl<E: Drop> Model for NamedLists<E> {
 }
 
 impl<E: Drop> NamedLists<E> {
-    /// No list.
-    pub fn new(alloc: Global) -> Self
+    /// No list. The names of those that will be begun are hashed as given.
+    pub fn new(alloc: Global, hashing: NameHashing) -> Self
         ensures { result ≡ [] }
     {
         NamedLists {
             lists: Vec::new(alloc),
-            places: NamePlaces::new(alloc),
+            places: NamePlaces::new(alloc, hashing),
         }
     }
 
@@ -98,7 +98,7 @@ impl<E: Drop> NamedLists<E> {
         ensures { OnOk result (self.new ≡ self.old ++ (record { name = name; entries = entry ∷ [] }) ∷ []) }
     {
         let entries = pushed(List::new(alloc), entry)?;
-        let all = std::mem::replace(self, NamedLists::new(alloc));
+        let all = std::mem::replace(self, NamedLists::new(alloc, NameHashing::plain()));
         *self = all.with(alloc, NamedList { name, entries })?;
         Ok(())
     }
@@ -123,7 +123,7 @@ impl<E: Drop> NamedLists<E> {
     {
         if let Err(error) = self.put(alloc, name, entry) {
             // The list of the name may have lost its entries: none is kept.
-            *self = NamedLists::new(alloc);
+            *self = NamedLists::new(alloc, NameHashing::plain());
             return Err(error);
         }
         Ok(())

@@ -8,6 +8,7 @@ use crate::named::{NamedList, NamedLists};
 use crate::numbers::{has_number, hold};
 use base_kit::{List, NoMemory, Text};
 use cfg_ast::{MapEntry, PrefixEntry};
+use numbered_names::NameHashing;
 use std::alloc::Global;
 use std::collections::BTreeSet;
 use std::marker::Model;
@@ -108,12 +109,12 @@ fn all_in_order<E: Numbered>(
 }
 
 impl<E: Numbered> NumberedLists<E> {
-    /// No list.
-    pub fn new(alloc: Global) -> Self
+    /// No list. The names of those that will be begun are hashed as given.
+    pub fn new(alloc: Global, hashing: NameHashing) -> Self
         ensures { result ≡ [] }
     {
         NumberedLists {
-            lists: NamedLists::new(alloc),
+            lists: NamedLists::new(alloc, hashing),
             numbers: BTreeSet::new(alloc),
         }
     }
@@ -138,7 +139,7 @@ impl<E: Numbered> NumberedLists<E> {
     {
         if let Err(error) = put_last(alloc, &mut self.lists, &mut self.numbers, name, entry) {
             // The set may be ahead of the lists: none of them is kept.
-            *self = NumberedLists::new(alloc);
+            *self = NumberedLists::new(alloc, NameHashing::plain());
             return Err(error);
         }
         Ok(())

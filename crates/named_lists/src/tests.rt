@@ -1,7 +1,8 @@
-//! Lists, entries, and two names of one hash.
+//! Lists and entries.
 
 use crate::{ByName, NamedList, Numbered, NumberedLists};
 use base_kit::Text;
+use numbered_names::NameHashing;
 use std::alloc::Global;
 use std::test::Fail;
 
@@ -51,7 +52,7 @@ fn texts(lists: &[NamedList<Line>]) -> usize {
 fn entries_stand_by_number_and_those_of_one_number_as_they_came(
     rt: HostRuntime,
 ) -> Result<(), Fail> {
-    let mut lists = NumberedLists::new(rt.alloc());
+    let mut lists = NumberedLists::new(rt.alloc(), NameHashing::plain());
     put(rt.alloc(), &mut lists, "up", &[10, 20, 30])?;
     put(rt.alloc(), &mut lists, "down", &[30, 20, 10])?;
     put(rt.alloc(), &mut lists, "mixed", &[20, 10, 20, 15])?;
@@ -65,7 +66,7 @@ fn entries_stand_by_number_and_those_of_one_number_as_they_came(
 fn a_number_is_found_in_a_list_that_ascends_and_in_one_that_does_not(
     rt: HostRuntime,
 ) -> Result<(), Fail> {
-    let mut lists = NumberedLists::new(rt.alloc());
+    let mut lists = NumberedLists::new(rt.alloc(), NameHashing::plain());
     put(rt.alloc(), &mut lists, "up", &[10, 20, 30])?;
     put(rt.alloc(), &mut lists, "down", &[30, 20, 10])?;
     for number in [10u32, 20, 30] {
@@ -81,7 +82,7 @@ fn a_number_is_found_in_a_list_that_ascends_and_in_one_that_does_not(
 
 #[test]
 fn lists_of_two_names_are_apart(rt: HostRuntime) -> Result<(), Fail> {
-    let mut lists = NumberedLists::new(rt.alloc());
+    let mut lists = NumberedLists::new(rt.alloc(), NameHashing::plain());
     put(rt.alloc(), &mut lists, "a", &[10])?;
     put(rt.alloc(), &mut lists, "b", &[20])?;
     put(rt.alloc(), &mut lists, "a", &[5])?;
@@ -94,7 +95,7 @@ fn lists_of_two_names_are_apart(rt: HostRuntime) -> Result<(), Fail> {
 
 #[test]
 fn items_are_found_by_their_names(rt: HostRuntime) -> Result<(), Fail> {
-    let mut items = ByName::new(rt.alloc());
+    let mut items = ByName::new(rt.alloc(), NameHashing::plain());
     items.push(rt.alloc(), Text::copy_of(rt.alloc(), "a")?)?;
     assert!(rt; !items.has("b"));
     items.push(rt.alloc(), Text::copy_of(rt.alloc(), "b")?)?;

@@ -1,1 +1,3 @@
+pub mod Hashing
 pub mod NamePlaces
+pub mod NameSets

@@ -3,6 +3,7 @@
 ghost use Rattle.std.specs.Prelude.{◌≡◌, ◌^◌, ◌∷◌, ◌++◌, [], ℕ, List, None, IfOk, OnOk, OnErr, bytes_eq, find, option_copied, slice_get};
 
 use crate::has_name::HasName;
+use crate::hashing::NameHashing;
 use base_kit::NoMemory;
 use indexmap::IndexMap;
 use std::alloc::Global;
@@ -10,7 +11,7 @@ use std::alloc::Global;
 /// The places of names.
 #[derive(Drop)]
 pub struct NamePlaces {
-    places: IndexMap<String, usize>,
+    places: IndexMap<String, usize, NameHashing>,
 }
 
 fn item_at<T>(items: &[T], place: usize) -> Option<&T>
@@ -22,12 +23,12 @@ fn item_at<T>(items: &[T], place: usize) -> Option<&T>
 impl NamePlaces {
     ghost use Rattle.numbered_names.specs.NamePlaces.{AreBelow, ArePlacesOf, place_in};
 
-    /// The places of no names.
-    pub fn new(alloc: Global) -> Self
+    /// The places of no names, which are hashed as given.
+    pub fn new(alloc: Global, hashing: NameHashing) -> Self
         ensures { (name : List ℕ) → place_in result name ≡ None }
     {
         NamePlaces {
-            places: IndexMap::new(alloc),
+            places: IndexMap::with_hasher(alloc, hashing),
         }
     }
 
@@ -52,7 +53,10 @@ impl NamePlaces {
     pub fn of<T: HasName>(alloc: Global, items: &[T]) -> Result<Self, NoMemory>
         ensures { IfOk result (λ places. ArePlacesOf T.name places items.now) }
     {
-        let mut places: IndexMap<String, usize> = IndexMap::new(alloc);
+        let hashing = NameHashing::of(items);
+        let mut places: IndexMap<String, usize, NameHashing> = IndexMap::with_hasher(
+            alloc, hashing,
+        );
         let mut place = items.len();
         while place > 0 {
             place -= 1;

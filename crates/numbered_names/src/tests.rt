@@ -1,6 +1,6 @@
 //! Names that repeat, and names that are not there.
 
-use crate::NamePlaces;
+use crate::{NameHashing, NamePlaces};
 use base_kit::{List, Text};
 use std::test::Fail;
 
@@ -24,7 +24,7 @@ fn the_first_of_a_name_is_found(rt: HostRuntime) -> Result<(), Fail> {
 #[test]
 fn a_name_is_noted(rt: HostRuntime) -> Result<(), Fail> {
     let names: List<Text> = List::new(rt.alloc());
-    let mut places = NamePlaces::new(rt.alloc());
+    let mut places = NamePlaces::new(rt.alloc(), NameHashing::plain());
     let name = Text::copy_of(rt.alloc(), "b")?;
     places.note(rt.alloc(), names.as_slice(), &name)?;
     assert_eq!(rt; places.place_of("b"), Some(0));
