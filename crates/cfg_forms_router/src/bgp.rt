@@ -16,7 +16,7 @@ use std::alloc::Global;
 #[tactic(auto, unfolding(cfg_ast::specs::text::RouterForms::router_form))]
 pub(crate) fn base(bytes: &[u8], words: &[Span], line: u32) -> Result<RouterItem, FormFault>
     requires { AllByRecursion (IsWordIn bytes.now) words.now }
-    ensures { Reads result (router_form form.Base line (texts bytes.now words.now)) }
+    ensures { result ≡ router_form form.Base line (texts bytes.now words.now) }
 {
     let [_, _, _, number] = words else {
         return Err(BadForm);
@@ -28,7 +28,7 @@ pub(crate) fn base(bytes: &[u8], words: &[Span], line: u32) -> Result<RouterItem
 #[tactic(auto, unfolding(cfg_ast::specs::text::RouterForms::net_line))]
 fn net_line(addr: u32, len: u8, line: u32) -> Result<RouterItem, FormFault>
     requires { len ≤ 32 }
-    ensures { Reads result (net_line line addr len) }
+    ensures { result ≡ net_line line addr len }
 {
     let prefix = exact_prefix(addr, len).ok_or(BadForm)?;
     Ok(RouterItem::Network(NetLine { prefix, line }))
@@ -37,7 +37,7 @@ fn net_line(addr: u32, len: u8, line: u32) -> Result<RouterItem, FormFault>
 #[tactic(auto, unfolding(cfg_ast::specs::text::RouterForms::router_form))]
 pub(crate) fn network(bytes: &[u8], words: &[Span], line: u32) -> Result<RouterItem, FormFault>
     requires { AllByRecursion (IsWordIn bytes.now) words.now }
-    ensures { Reads result (router_form form.Network line (texts bytes.now words.now)) }
+    ensures { result ≡ router_form form.Network line (texts bytes.now words.now) }
 {
     if let [_, address] = words {
         let addr = read_address(text(bytes, *address)).ok_or(BadForm)?;
@@ -58,7 +58,7 @@ pub(crate) fn network(bytes: &[u8], words: &[Span], line: u32) -> Result<RouterI
 #[tactic(auto, unfolding(cfg_ast::specs::text::RouterForms::router_form))]
 pub(crate) fn remote_as(bytes: &[u8], words: &[Span]) -> Result<RouterItem, FormFault>
     requires { AllByRecursion (IsWordIn bytes.now) words.now }
-    ensures { (line : ℕ) → Reads result (router_form form.RemoteAs line (texts bytes.now words.now)) }
+    ensures { (line : ℕ) → result ≡ router_form form.RemoteAs line (texts bytes.now words.now) }
 {
     let [_, address, _, number] = words else {
         return Err(BadForm);
@@ -71,7 +71,7 @@ pub(crate) fn remote_as(bytes: &[u8], words: &[Span]) -> Result<RouterItem, Form
 #[tactic(auto, unfolding(cfg_ast::specs::text::RouterForms::router_form))]
 pub(crate) fn peer_shut(bytes: &[u8], words: &[Span]) -> Result<RouterItem, FormFault>
     requires { AllByRecursion (IsWordIn bytes.now) words.now }
-    ensures { (line : ℕ) → Reads result (router_form form.PeerShut line (texts bytes.now words.now)) }
+    ensures { (line : ℕ) → result ≡ router_form form.PeerShut line (texts bytes.now words.now) }
 {
     let [_, address, _] = words else {
         return Err(BadForm);
@@ -90,7 +90,7 @@ fn sends_standard(word: &[u8]) -> bool
 #[tactic(auto, unfolding(cfg_ast::specs::text::RouterForms::router_form))]
 pub(crate) fn peer_sends(bytes: &[u8], words: &[Span]) -> Result<RouterItem, FormFault>
     requires { AllByRecursion (IsWordIn bytes.now) words.now }
-    ensures { (line : ℕ) → Reads result (router_form form.PeerSends line (texts bytes.now words.now)) }
+    ensures { (line : ℕ) → result ≡ router_form form.PeerSends line (texts bytes.now words.now) }
 {
     if let [_, address, _] = words {
         let addr = read_address(text(bytes, *address)).ok_or(BadForm)?;

@@ -2,7 +2,6 @@
 
 ghost use Rattle.std.specs.Prelude.{ℕ, ◌≡◌};
 ghost use Rattle.std.specs.List.{AllByRecursion};
-ghost use Rattle.cfg_ast.specs.text.Answers.{Reads};
 ghost use Rattle.cfg_ast.specs.text.Lines.{IsWordIn, texts};
 ghost use Rattle.cfg_ast.specs.declared.heads.RouterForm.TheVariants as form;
 ghost use Rattle.cfg_ast.specs.text.RouterForms.{router_form};
@@ -15,7 +14,7 @@ use cfg_words::{read_address, read_between, text};
 #[tactic(auto, unfolding(cfg_ast::specs::text::RouterForms::router_form))]
 pub(crate) fn ip_address(bytes: &[u8], words: &[Span], line: u32) -> Result<RouterItem, FormFault>
     requires { AllByRecursion (IsWordIn bytes.now) words.now }
-    ensures { Reads result (router_form form.IpAddress line (texts bytes.now words.now)) }
+    ensures { result ≡ router_form form.IpAddress line (texts bytes.now words.now) }
 {
     let [_, _, address, mask] = words else {
         return Err(BadForm);
@@ -28,7 +27,7 @@ pub(crate) fn ip_address(bytes: &[u8], words: &[Span], line: u32) -> Result<Rout
 #[tactic(auto, unfolding(cfg_ast::specs::text::RouterForms::router_form))]
 pub(crate) fn cost(bytes: &[u8], words: &[Span]) -> Result<RouterItem, FormFault>
     requires { AllByRecursion (IsWordIn bytes.now) words.now }
-    ensures { (line : ℕ) → Reads result (router_form form.Cost line (texts bytes.now words.now)) }
+    ensures { (line : ℕ) → result ≡ router_form form.Cost line (texts bytes.now words.now) }
 {
     let [_, _, _, number] = words else {
         return Err(BadForm);
@@ -39,7 +38,7 @@ pub(crate) fn cost(bytes: &[u8], words: &[Span]) -> Result<RouterItem, FormFault
 
 #[tactic(auto, unfolding(cfg_ast::specs::text::RouterForms::router_form))]
 pub(crate) fn shutdown(bytes: &[u8], words: &[Span]) -> Result<RouterItem, FormFault>
-    ensures { (line : ℕ) → Reads result (router_form form.Shutdown line (texts bytes.now words.now)) }
+    ensures { (line : ℕ) → result ≡ router_form form.Shutdown line (texts bytes.now words.now) }
 {
     let [_] = words else {
         return Err(BadForm);

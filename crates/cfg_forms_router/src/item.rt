@@ -11,6 +11,7 @@ use cfg_ast::{FormFault, HeadClass, Line, RouterForm, RouterItem, Scope, Span};
 use cfg_words::router_class;
 use std::alloc::Global;
 
+#[tactic(auto, using(crate::proofs::Exact::exact_reads))]
 fn read_form(
     alloc: Global,
     bytes: &[u8],

@@ -25,7 +25,7 @@ fn read_area(word: &[u8]) -> Option<u32>
 #[tactic(auto, unfolding(cfg_ast::specs::text::RouterForms::router_form))]
 pub(crate) fn area(bytes: &[u8], words: &[Span], line: u32) -> Result<RouterItem, FormFault>
     requires { AllByRecursion (IsWordIn bytes.now) words.now }
-    ensures { Reads result (router_form form.Area line (texts bytes.now words.now)) }
+    ensures { result ≡ router_form form.Area line (texts bytes.now words.now) }
 {
     let [_, address, wildcard, word, area] = words else {
         return Err(BadForm);

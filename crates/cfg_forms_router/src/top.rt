@@ -49,7 +49,7 @@ pub(crate) fn interface(
 #[tactic(auto, unfolding(cfg_ast::specs::text::RouterForms::router_form))]
 pub(crate) fn bgp(bytes: &[u8], words: &[Span]) -> Result<RouterItem, FormFault>
     requires { AllByRecursion (IsWordIn bytes.now) words.now }
-    ensures { (line : ℕ) → Reads result (router_form form.Bgp line (texts bytes.now words.now)) }
+    ensures { (line : ℕ) → result ≡ router_form form.Bgp line (texts bytes.now words.now) }
 {
     let [_, _, number] = words else {
         return Err(BadForm);
@@ -61,7 +61,7 @@ pub(crate) fn bgp(bytes: &[u8], words: &[Span]) -> Result<RouterItem, FormFault>
 #[tactic(auto, unfolding(cfg_ast::specs::text::RouterForms::router_form))]
 pub(crate) fn ospf(bytes: &[u8], words: &[Span]) -> Result<RouterItem, FormFault>
     requires { AllByRecursion (IsWordIn bytes.now) words.now }
-    ensures { (line : ℕ) → Reads result (router_form form.Ospf line (texts bytes.now words.now)) }
+    ensures { (line : ℕ) → result ≡ router_form form.Ospf line (texts bytes.now words.now) }
 {
     let [_, _, number] = words else {
         return Err(BadForm);
@@ -72,7 +72,7 @@ pub(crate) fn ospf(bytes: &[u8], words: &[Span]) -> Result<RouterItem, FormFault
 
 #[tactic(auto, unfolding(cfg_ast::specs::text::RouterForms::router_form))]
 pub(crate) fn end(bytes: &[u8], words: &[Span]) -> Result<RouterItem, FormFault>
-    ensures { (line : ℕ) → Reads result (router_form form.End line (texts bytes.now words.now)) }
+    ensures { (line : ℕ) → result ≡ router_form form.End line (texts bytes.now words.now) }
 {
     let [_] = words else {
         return Err(BadForm);

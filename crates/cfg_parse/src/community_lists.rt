@@ -6,6 +6,7 @@ ghost use Rattle.cfg_ast.specs.text.PolicyLines.{with_community_line};
 use base_kit::{List, NoMemory, Text};
 use cfg_ast::{CommunityLine, CommunityList};
 use named_lists::{NamedList, NamedLists, fitted};
+use numbered_names::NameHashing;
 use std::alloc::Global;
 use std::marker::Model;
 
@@ -26,11 +27,11 @@ impl Model for CommunityLists {
 }
 
 impl CommunityLists {
-    pub(crate) fn new(alloc: Global) -> Self
+    pub(crate) fn new(alloc: Global, hashing: NameHashing) -> Self
         ensures { result ≡ [] }
     {
         CommunityLists {
-            lists: NamedLists::new(alloc),
+            lists: NamedLists::new(alloc, hashing),
         }
     }
 

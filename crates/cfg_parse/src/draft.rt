@@ -11,6 +11,7 @@ use crate::route_maps::RouteMaps;
 use base_kit::{List, NoMemory, Text};
 use cfg_ast::{BgpProcess, Interface, MapEntry, Named, OspfProcess, Router};
 use cfg_stanzas::{BgpDraft, OspfDraft};
+use numbered_names::NameHashing;
 use std::alloc::Global;
 use std::marker::Model;
 
@@ -36,6 +37,8 @@ pub(crate) struct Draft {
     pub(crate) community_lists: CommunityLists,
     pub(crate) route_maps: RouteMaps,
     pub(crate) stanza: Open,
+    /// How the names of tables that begin from here on are hashed.
+    pub(crate) hashing: NameHashing,
 }
 
 impl Model for Draft {
@@ -62,27 +65,28 @@ impl Model for State {
     ghost view = { λ s. record { routers = s.routers; draft = s.draft } };
 }
 
-pub(crate) fn no_draft(alloc: Global) -> Draft
+pub(crate) fn no_draft(alloc: Global, hashing: NameHashing) -> Draft
     ensures { result ≡ no_draft }
 {
     Draft {
         name: None,
-        interfaces: Interfaces::new(alloc),
+        interfaces: Interfaces::new(alloc, hashing),
         bgp: None,
         ospf: None,
-        prefix_lists: PrefixLists::new(alloc),
-        community_lists: CommunityLists::new(alloc),
-        route_maps: RouteMaps::new(alloc),
+        prefix_lists: PrefixLists::new(alloc, hashing),
+        community_lists: CommunityLists::new(alloc, hashing),
+        route_maps: RouteMaps::new(alloc, hashing),
         stanza: Open::Closed,
+        hashing,
     }
 }
 
-pub(crate) fn at_start(alloc: Global) -> State
+pub(crate) fn at_start(alloc: Global, hashing: NameHashing) -> State
     ensures { result ≡ at_start }
 {
     State {
         routers: List::new(alloc),
-        draft: no_draft(alloc),
+        draft: no_draft(alloc, hashing),
     }
 }
 

@@ -6,6 +6,7 @@ ghost use Rattle.cfg_ast.specs.text.Reading.{has_interface};
 use base_kit::{List, NoMemory};
 use cfg_ast::Interface;
 use named_lists::ByName;
+use numbered_names::NameHashing;
 use std::alloc::Global;
 use std::marker::Model;
 
@@ -25,11 +26,11 @@ impl Model for Interfaces {
 }
 
 impl Interfaces {
-    pub(crate) fn new(alloc: Global) -> Self
+    pub(crate) fn new(alloc: Global, hashing: NameHashing) -> Self
         ensures { result ≡ [] }
     {
         Interfaces {
-            items: ByName::new(alloc),
+            items: ByName::new(alloc, hashing),
         }
     }
 

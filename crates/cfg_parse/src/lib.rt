@@ -16,6 +16,7 @@ mod policy;
 mod prefix_lists;
 mod reading;
 mod route_maps;
+mod router_names;
 mod stanza;
 mod top;
 

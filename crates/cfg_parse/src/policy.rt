@@ -1,12 +1,12 @@
 //! The top lines of lists and route maps.
 
-ghost use Rattle.std.specs.Prelude.{◌≡◌, OnOk, bytes_eq, codes};
+ghost use Rattle.std.specs.Prelude.{◌≡◌, OnOk, OnErr, bytes_eq, codes};
 ghost use Rattle.std.specs.List.{AllByRecursion};
 ghost use Rattle.cfg_ast.specs.declared.items.PolicyItem.TheVariants as item;
 ghost use Rattle.cfg_ast.specs.text.Lines.{IsWordIn, texts, text_of};
 ghost use Rattle.cfg_ast.specs.text.PolicyLines.{is_policy_line, is_list_word, with_community_line};
 ghost use Rattle.cfg_ast.specs.text.Reading.{take_policy};
-ghost use Rattle.cfg_stanzas.specs.Changes.{Changes};
+ghost use Rattle.cfg_stanzas.specs.Changes.{Changes, Sets};
 
 use crate::draft::{Draft, Open, begin_stanza};
 use crate::top::ignore;
@@ -102,7 +102,8 @@ fn open_entry(
     entry: MapEntry,
     draft: &mut Draft,
 ) -> Result<(), ReadRefusal>
-    ensures { Changes result draft.new (take_policy number (item.MapHead name entry) draft.old) }
+    ensures set { Sets result draft.new (take_policy number (item.MapHead name entry) draft.old) }
+    ensures err { OnErr result (draft.new ≡ draft.old) }
 {
     if draft.route_maps.has_entry(name.as_str(), entry.seq) {
         return Err(repeated(number));
@@ -112,7 +113,7 @@ fn open_entry(
 }
 
 /// Adds to the draft what a top line of a list or a route map says.
-#[tactic(auto, unfolding(cfg_ast::specs::text::Reading::take_policy))]
+#[tactic(auto, using(cfg_stanzas::proofs::Changed::set_changes), unfolding(cfg_ast::specs::text::Reading::take_policy))]
 pub(crate) fn take_policy(
     alloc: Global,
     number: u32,

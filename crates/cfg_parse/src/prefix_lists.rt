@@ -6,6 +6,7 @@ ghost use Rattle.cfg_ast.specs.text.PolicyLines.{has_prefix_entry, with_prefix_e
 use base_kit::{List, NoMemory, Text};
 use cfg_ast::{PrefixEntry, PrefixList};
 use named_lists::{NamedList, NumberedLists, fitted};
+use numbered_names::NameHashing;
 use std::alloc::Global;
 use std::marker::Model;
 
@@ -26,11 +27,11 @@ impl Model for PrefixLists {
 }
 
 impl PrefixLists {
-    pub(crate) fn new(alloc: Global) -> Self
+    pub(crate) fn new(alloc: Global, hashing: NameHashing) -> Self
         ensures { result ≡ [] }
     {
         PrefixLists {
-            lists: NumberedLists::new(alloc),
+            lists: NumberedLists::new(alloc, hashing),
         }
     }
 

@@ -11,6 +11,7 @@ ghost use Rattle.cfg_parse.specs.Rest.{answer_of, state_after};
 use crate::draft::{State, at_start, close};
 use crate::end_line::is_end_line;
 use crate::policy::{is_policy_line, take_policy};
+use crate::router_names::hashing_from;
 use crate::stanza::take_inner;
 use crate::top::take_top;
 use base_kit::List;
@@ -76,7 +77,7 @@ fn step_inner(
 }
 
 #[tactic(auto, unfolding(cfg_ast::specs::text::Reading::step))]
-fn step(alloc: Global, bytes: &[u8], line: &Line, state: &mut State) -> Result<(), ReadRefusal>
+fn step_line(alloc: Global, bytes: &[u8], line: &Line, state: &mut State) -> Result<(), ReadRefusal>
     requires { IsLineIn bytes.now line.now }
     ensures { Changes result state.new (step state.old (text_line bytes.now line.now)) }
 {
@@ -85,6 +86,32 @@ fn step(alloc: Global, bytes: &[u8], line: &Line, state: &mut State) -> Result<(
     } else {
         step_inner(alloc, bytes, line, state)
     }
+}
+
+// At the line `end`, says how the names of the next router are hashed, whose lines begin at a place.
+#[tactic(auto, using(crate::proofs::Rest::words_are_spans))]
+fn look_ahead(bytes: &[u8], line: &Line, next: usize, state: &mut State)
+    requires { IsLineIn bytes.now line.now }
+    ensures { state.new ≡ state.old }
+{
+    if is_end_line(bytes, line) {
+        state.draft.hashing = hashing_from(bytes, next);
+    }
+}
+
+// Takes a line. The next one begins at a place.
+fn step(
+    alloc: Global,
+    bytes: &[u8],
+    line: &Line,
+    next: usize,
+    state: &mut State,
+) -> Result<(), ReadRefusal>
+    requires { IsLineIn bytes.now line.now }
+    ensures { Changes result state.new (step state.old (text_line bytes.now line.now)) }
+{
+    look_ahead(bytes, line, next, state);
+    step_line(alloc, bytes, line, state)
 }
 
 // The number of a line that is not the top line `end`.
@@ -122,7 +149,7 @@ fn read_lines(alloc: Global, bytes: &[u8], state: &mut State) -> Result<(), Read
     let mut last = None;
     let mut spare = List::new(alloc);
     while let Some((line, next)) = line_from(bytes, place, spare)? {
-        step(alloc, bytes, &line, state)?;
+        step(alloc, bytes, &line, next.from, state)?;
         last = unended(bytes, &line);
         place = next;
         spare = line.words;
@@ -136,7 +163,7 @@ fn all_lines(alloc: Global, bytes: &[u8]) -> Result<State, ReadRefusal>
     requires sound { is_ok (lines_of bytes.now) ≡ true }
     ensures { Gives result (state_after bytes.now at_start (Ok tt) (lines_of bytes.now)) }
 {
-    let mut state = at_start(alloc);
+    let mut state = at_start(alloc, hashing_from(bytes, 0));
     if let Err(refusal) = read_lines(alloc, bytes, &mut state) {
         // It goes whole to `drop`, so that the proof does not take it apart.
         drop(state);

@@ -6,6 +6,7 @@ ghost use Rattle.cfg_ast.specs.text.PolicyLines.{has_map_entry, with_map_entry};
 use base_kit::{List, NoMemory, Text};
 use cfg_ast::{MapEntry, RouteMap};
 use named_lists::{NamedList, NumberedLists, fitted};
+use numbered_names::NameHashing;
 use std::alloc::Global;
 use std::marker::Model;
 
@@ -26,11 +27,11 @@ impl Model for RouteMaps {
 }
 
 impl RouteMaps {
-    pub(crate) fn new(alloc: Global) -> Self
+    pub(crate) fn new(alloc: Global, hashing: NameHashing) -> Self
         ensures { result ≡ [] }
     {
         RouteMaps {
-            maps: NumberedLists::new(alloc),
+            maps: NumberedLists::new(alloc, hashing),
         }
     }
 

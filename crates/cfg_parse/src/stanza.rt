@@ -14,7 +14,7 @@ use cfg_stanzas::{
 use std::alloc::Global;
 
 /// Adds to the open stanza what one of its lines says.
-#[tactic(auto, unfolding(cfg_ast::specs::text::Reading::take_inner))]
+#[tactic(auto, using(cfg_stanzas::proofs::Changed::refused_as), unfolding(cfg_ast::specs::text::Reading::take_inner))]
 pub(crate) fn take_inner(
     alloc: Global,
     bytes: &[u8],

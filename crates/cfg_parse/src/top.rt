@@ -1,11 +1,11 @@
 //! A line at the top.
 
-ghost use Rattle.std.specs.Prelude.{◌≡◌, IfOk};
+ghost use Rattle.std.specs.Prelude.{◌≡◌, IfOk, OnErr};
 ghost use Rattle.cfg_ast.specs.declared.items.RouterItem.TheVariants as item;
 ghost use Rattle.cfg_ast.specs.text.Answers.{Gives};
 ghost use Rattle.cfg_ast.specs.text.Stanzas.{once};
 ghost use Rattle.cfg_ast.specs.text.Reading.{new_interface, ignored, named_router, end_router, ends_router, take_line, take_top};
-ghost use Rattle.cfg_stanzas.specs.Changes.{Changes};
+ghost use Rattle.cfg_stanzas.specs.Changes.{Changes, Sets};
 
 use crate::community_lists::CommunityLists;
 use crate::draft::{Draft, Open, State, begin_stanza, no_draft};
@@ -32,7 +32,8 @@ fn new_interface(number: u32, name: Text) -> Interface
 
 #[tactic(auto, unfolding(cfg_ast::specs::text::Reading::take_line))]
 fn take_hostname(number: u32, name: Text, draft: &mut Draft) -> Result<(), ReadRefusal>
-    ensures { Changes result draft.new (take_line number (item.Hostname name) draft.old) }
+    ensures set { Sets result draft.new (take_line number (item.Hostname name) draft.old) }
+    ensures err { OnErr result (draft.new ≡ draft.old) }
 {
     once(number, draft.name.is_some())?;
     draft.name = Some(Named { name, line: number });
@@ -41,7 +42,8 @@ fn take_hostname(number: u32, name: Text, draft: &mut Draft) -> Result<(), ReadR
 
 #[tactic(auto, unfolding(cfg_ast::specs::text::Reading::take_line))]
 fn open_interface(number: u32, name: Text, draft: &mut Draft) -> Result<(), ReadRefusal>
-    ensures { Changes result draft.new (take_line number (item.Interface name) draft.old) }
+    ensures set { Sets result draft.new (take_line number (item.Interface name) draft.old) }
+    ensures err { OnErr result (draft.new ≡ draft.old) }
 {
     if draft.interfaces.has(name.as_str()) {
         return Err(repeated(number));
@@ -52,7 +54,8 @@ fn open_interface(number: u32, name: Text, draft: &mut Draft) -> Result<(), Read
 
 #[tactic(auto, unfolding(cfg_ast::specs::text::Reading::take_line))]
 fn open_bgp(alloc: Global, line: u32, number: u32, draft: &mut Draft) -> Result<(), ReadRefusal>
-    ensures { Changes result draft.new (take_line line (item.Bgp number) draft.old) }
+    ensures set { Sets result draft.new (take_line line (item.Bgp number) draft.old) }
+    ensures err { OnErr result (draft.new ≡ draft.old) }
 {
     once(line, draft.bgp.is_some())?;
     begin_stanza(draft, Open::Bgp(BgpDraft::new(alloc, line, number)));
@@ -61,10 +64,14 @@ fn open_bgp(alloc: Global, line: u32, number: u32, draft: &mut Draft) -> Result<
 
 #[tactic(auto, unfolding(cfg_ast::specs::text::Reading::take_line))]
 fn open_ospf(alloc: Global, line: u32, number: u32, draft: &mut Draft) -> Result<(), ReadRefusal>
-    ensures { Changes result draft.new (take_line line (item.Ospf number) draft.old) }
+    ensures set { Sets result draft.new (take_line line (item.Ospf number) draft.old) }
+    ensures err { OnErr result (draft.new ≡ draft.old) }
 {
     once(line, draft.ospf.is_some())?;
-    begin_stanza(draft, Open::Ospf(OspfDraft::new(alloc, line, number)));
+    begin_stanza(
+        draft,
+        Open::Ospf(OspfDraft::new(alloc, draft.hashing, line, number)),
+    );
     Ok(())
 }
 
@@ -112,6 +119,7 @@ fn router_of(alloc: Global, number: u32, draft: Draft) -> Result<Router, ReadRef
         community_lists,
         route_maps,
         stanza,
+        ..
     } = draft;
     // It goes first, so that no later return has to drop each kind of stanza.
     drop(stanza);
@@ -144,7 +152,7 @@ fn ends_router(item: &RouterItem) -> bool
 }
 
 // The top lines that change the draft alone.
-#[tactic(auto, unfolding(cfg_ast::specs::text::Reading::take_line))]
+#[tactic(auto, using(cfg_stanzas::proofs::Changed::set_changes), unfolding(cfg_ast::specs::text::Reading::take_line))]
 fn take_line(
     alloc: Global,
     number: u32,
@@ -169,7 +177,8 @@ fn take_line(
 fn end_router(alloc: Global, number: u32, state: &mut State) -> Result<(), ReadRefusal>
     ensures { Changes result state.new (end_router number state.old) }
 {
-    let draft = std::mem::replace(&mut state.draft, no_draft(alloc));
+    let hashing = state.draft.hashing;
+    let draft = std::mem::replace(&mut state.draft, no_draft(alloc, hashing));
     state.routers.push(router_of(alloc, number, draft)?)?;
     Ok(())
 }

@@ -1,2 +1,3 @@
+pub mod Changed
 mod ChangedNeighbors
 mod Indexed

@@ -1,3 +1,4 @@
 pub mod Changes
 pub mod Indexes
+pub mod Left
 pub mod Neighbors

@@ -1,6 +1,6 @@
 //! The `network` lines of an OSPF process, each once.
 
-ghost use Rattle.std.specs.Prelude.{◌≡◌, ◌++◌, ◌∷◌, [], IfOk, OnOk};
+ghost use Rattle.std.specs.Prelude.{◌≡◌, ◌++◌, ◌∷◌, [], IfOk, OnOk, OnErr};
 ghost use Rattle.std.specs.List.{list_any};
 ghost use Rattle.cfg_ast.specs.text.Stanzas.{same_area_line, with_area};
 ghost use Rattle.cfg_stanzas.specs.Indexes.{area_key};
@@ -64,10 +64,14 @@ impl Areas {
         Ok(Areas { items, said })
     }
 
-    /// Puts the line behind them if none of them says the same. After an error there are none.
+    /// Puts the line behind them if none of them says the same.
+    ///
+    /// # Errors
+    /// Out of memory: then none is left.
     #[tactic(auto, unfolding(cfg_ast::specs::text::Stanzas::with_area))]
     pub(crate) fn add(&mut self, alloc: Global, area: AreaLine) -> Result<(), NoMemory>
-        ensures { OnOk result (self.new ≡ with_area self.old area) }
+        ensures ok { OnOk result (self.new ≡ with_area self.old area) }
+        ensures err { OnErr result (self.new ≡ []) }
     {
         if self.has(&area) {
             return Ok(());

@@ -1,10 +1,11 @@
 //! The lines of a BGP process, taken one by one.
 
-ghost use Rattle.std.specs.Prelude.{◌≡◌};
+ghost use Rattle.std.specs.Prelude.{◌≡◌, [], OnErr};
 ghost use Rattle.cfg_ast.specs.text.Reading.{new_bgp};
 ghost use Rattle.cfg_ast.specs.declared.items.RouterItem.TheVariants as item;
 ghost use Rattle.cfg_ast.specs.text.Stanzas.{set_bgp, with_peer, peer_of, set_process};
-ghost use Rattle.cfg_stanzas.specs.Changes.{Changes};
+ghost use Rattle.cfg_stanzas.specs.Changes.{Changes, Keeps, Sets};
+ghost use Rattle.cfg_stanzas.specs.Left.{IsLeftOfBgp};
 
 use crate::faults::once;
 use crate::neighbors::{Neighbors, new_neighbor};
@@ -32,6 +33,7 @@ impl Model for BgpDraft {
 }
 
 impl BgpDraft {
+    /// A process of that number with no lines yet.
     pub fn new(alloc: Global, line: u32, number: u32) -> BgpDraft
         ensures { result ≡ new_bgp line number }
     {
@@ -44,6 +46,7 @@ impl BgpDraft {
         }
     }
 
+    /// The process that the lines give.
     pub fn into_process(self) -> BgpProcess
         ensures { result ≡ self }
     {
@@ -70,7 +73,8 @@ fn set_peer(
     item: RouterItem,
     process: &mut BgpDraft,
 ) -> Result<(), ReadRefusal>
-    ensures { Changes result process.new (with_peer number addr item process.old) }
+    ensures set { Sets result process.new (with_peer number addr item process.old) }
+    ensures err { OnErr result (process.new ≡ process.old) }
 {
     process.neighbors.change(number, addr, item)?;
     Ok(())
@@ -95,7 +99,8 @@ fn add_network(
     net: &NetLine,
     process: &mut BgpDraft,
 ) -> Result<(), ReadRefusal>
-    ensures { Changes result process.new (set_process number (item.Network net.now) process.old) }
+    ensures set { Changes result process.new (set_process number (item.Network net.now) process.old) }
+    ensures err { Keeps result process.old process.new (process.new ≡ record process.old { networks = [] }) }
 {
     once(number, process.networks.has(net.prefix))?;
     process.networks.add(alloc, *net)?;
@@ -110,7 +115,8 @@ fn add_neighbor(
     remote: u32,
     process: &mut BgpDraft,
 ) -> Result<(), ReadRefusal>
-    ensures { Changes result process.new (set_process number (item.RemoteAs addr remote) process.old) }
+    ensures set { Changes result process.new (set_process number (item.RemoteAs addr remote) process.old) }
+    ensures err { Keeps result process.old process.new (process.new ≡ record process.old { neighbors = [] }) }
 {
     once(number, process.neighbors.has(addr))?;
     process
@@ -121,7 +127,8 @@ fn add_neighbor(
 
 #[tactic(auto, unfolding(cfg_ast::specs::text::Stanzas::set_process))]
 fn set_base(number: u32, base: Base, process: &mut BgpDraft) -> Result<(), ReadRefusal>
-    ensures { Changes result process.new (set_process number (item.Base base) process.old) }
+    ensures set { Sets result process.new (set_process number (item.Base base) process.old) }
+    ensures err { OnErr result (process.new ≡ process.old) }
 {
     once(number, process.base.is_some())?;
     process.base = Some(base);
@@ -135,7 +142,8 @@ fn set_process(
     item: &RouterItem,
     process: &mut BgpDraft,
 ) -> Result<(), ReadRefusal>
-    ensures { Changes result process.new (set_process number item.now process.old) }
+    ensures set { Changes result process.new (set_process number item.now process.old) }
+    ensures err { Keeps result process.old process.new (IsLeftOfBgp item.now process.old process.new) }
 {
     match item {
         RouterItem::Base(base) => set_base(number, *base, process),
@@ -149,6 +157,9 @@ fn set_process(
 }
 
 /// Adds to the process what one of its lines says.
+///
+/// # Errors
+/// The fault of the line: then nothing changes. Out of memory: then the list to which the line adds is empty.
 #[tactic(auto, unfolding(cfg_ast::specs::text::Stanzas::set_bgp))]
 pub fn set_bgp(
     alloc: Global,
@@ -156,7 +167,8 @@ pub fn set_bgp(
     item: RouterItem,
     process: &mut BgpDraft,
 ) -> Result<(), ReadRefusal>
-    ensures { Changes result process.new (set_bgp number item process.old) }
+    ensures set { Changes result process.new (set_bgp number item process.old) }
+    ensures err { Keeps result process.old process.new (IsLeftOfBgp item process.old process.new) }
 {
     match peer_of(&item) {
         Some(addr) => set_peer(number, addr, item, process),

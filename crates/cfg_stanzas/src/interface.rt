@@ -1,34 +1,32 @@
 //! The lines of an interface, taken one by one.
 
+ghost use Rattle.std.specs.Prelude.{◌≡◌, OnErr};
 ghost use Rattle.cfg_ast.specs.text.Stanzas.{set_interface};
-ghost use Rattle.cfg_stanzas.specs.Changes.{Changes};
+ghost use Rattle.cfg_stanzas.specs.Changes.{Sets};
 
-use cfg_ast::{Interface, Kind, ReadRefusal, RouterItem};
+use crate::faults::once;
+use cfg_ast::{Interface, ReadRefusal, RouterItem};
 
 /// Adds to the interface what one of its lines says.
+///
+/// # Errors
+/// A value that stands already: then nothing changes.
 #[tactic(auto, unfolding(cfg_ast::specs::text::Stanzas::set_interface))]
 pub fn set_interface(
     number: u32,
     item: RouterItem,
     interface: &mut Interface,
 ) -> Result<(), ReadRefusal>
-    ensures { Changes result interface.new (set_interface number item interface.old) }
+    ensures set { Sets result interface.new (set_interface number item interface.old) }
+    ensures err { OnErr result (interface.new ≡ interface.old) }
 {
-    let repeated = ReadRefusal::At {
-        line: number,
-        kind: Kind::Repeated,
-    };
     match item {
         RouterItem::IpAddress(address) => {
-            if interface.address.is_some() {
-                return Err(repeated);
-            }
+            once(number, interface.address.is_some())?;
             interface.address = Some(address);
         }
         RouterItem::Cost(cost) => {
-            if interface.cost.is_some() {
-                return Err(repeated);
-            }
+            once(number, interface.cost.is_some())?;
             interface.cost = Some(cost);
         }
         RouterItem::Shutdown => interface.shut = true,

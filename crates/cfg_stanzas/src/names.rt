@@ -5,6 +5,7 @@ ghost use Rattle.cfg_ast.specs.text.Stanzas.{with_text};
 
 use base_kit::{List, NoMemory, Text};
 use named_lists::ByName;
+use numbered_names::NameHashing;
 use std::alloc::Global;
 use std::marker::Model;
 
@@ -23,11 +24,11 @@ impl Model for Names {
 }
 
 impl Names {
-    pub(crate) fn new(alloc: Global) -> Self
+    pub(crate) fn new(alloc: Global, hashing: NameHashing) -> Self
         ensures { result ≡ [] }
     {
         Names {
-            items: ByName::new(alloc),
+            items: ByName::new(alloc, hashing),
         }
     }
 

@@ -1,10 +1,10 @@
 //! The neighbours of a BGP process, found by their addresses.
 
-ghost use Rattle.std.specs.Prelude.{ℕ, ◌≡◌, ◌<◌, ◌∷◌, ◌++◌, [], IfOk, OnOk, length, false, nat_eq};
+ghost use Rattle.std.specs.Prelude.{ℕ, ◌≡◌, ◌<◌, ◌∷◌, ◌++◌, [], IfOk, OnOk, OnErr, length, false, nat_eq};
 ghost use Rattle.std.specs.List.{position};
 ghost use Rattle.cfg_ast.specs.declared.items.RouterItem.TheVariants as item;
 ghost use Rattle.cfg_stanzas.specs.Neighbors.{change_at};
-ghost use Rattle.cfg_stanzas.specs.Changes.{Changes};
+ghost use Rattle.cfg_stanzas.specs.Changes.{Sets};
 ghost use Rattle.cfg_ast.specs.text.Stanzas.{has_neighbor, new_neighbor, set_neighbor, at_neighbor};
 
 use crate::faults::{misplaced, once};
@@ -55,7 +55,8 @@ pub(crate) fn new_neighbor(number: u32, addr: u32, remote: u32) -> Neighbor
 
 #[tactic(auto, unfolding(cfg_ast::specs::text::Stanzas::set_neighbor))]
 fn set_list(number: u32, list: Named, inward: bool, peer: &mut Neighbor) -> Result<(), ReadRefusal>
-    ensures set { (addr : ℕ) → Changes result peer.new (set_neighbor number (item.PeerList addr list inward) peer.old) }
+    ensures set { (addr : ℕ) → Sets result peer.new (set_neighbor number (item.PeerList addr list inward) peer.old) }
+    ensures err { OnErr result (peer.new ≡ peer.old) }
     ensures addr { peer.new.addr ≡ peer.old.addr }
 {
     if inward {
@@ -70,7 +71,8 @@ fn set_list(number: u32, list: Named, inward: bool, peer: &mut Neighbor) -> Resu
 
 #[tactic(auto, unfolding(cfg_ast::specs::text::Stanzas::set_neighbor))]
 fn set_map(number: u32, map: Named, inward: bool, peer: &mut Neighbor) -> Result<(), ReadRefusal>
-    ensures set { (addr : ℕ) → Changes result peer.new (set_neighbor number (item.PeerMap addr map inward) peer.old) }
+    ensures set { (addr : ℕ) → Sets result peer.new (set_neighbor number (item.PeerMap addr map inward) peer.old) }
+    ensures err { OnErr result (peer.new ≡ peer.old) }
     ensures addr { peer.new.addr ≡ peer.old.addr }
 {
     if inward {
@@ -85,7 +87,8 @@ fn set_map(number: u32, map: Named, inward: bool, peer: &mut Neighbor) -> Result
 
 #[tactic(auto, unfolding(cfg_ast::specs::text::Stanzas::set_neighbor))]
 fn set_neighbor(number: u32, item: RouterItem, peer: &mut Neighbor) -> Result<(), ReadRefusal>
-    ensures set { Changes result peer.new (set_neighbor number item peer.old) }
+    ensures set { Sets result peer.new (set_neighbor number item peer.old) }
+    ensures err { OnErr result (peer.new ≡ peer.old) }
     ensures addr { peer.new.addr ≡ peer.old.addr }
 {
     match item {
@@ -151,10 +154,14 @@ impl Neighbors {
         })
     }
 
-    /// Puts one of another address behind them. After an error there are none.
+    /// Puts one of another address behind them.
+    ///
+    /// # Errors
+    /// Out of memory: then none is left.
     pub(crate) fn add(&mut self, alloc: Global, peer: Neighbor) -> Result<(), NoMemory>
         requires { has_neighbor self.old peer.addr ≡ false }
-        ensures { OnOk result (self.new ≡ self.old ++ peer ∷ []) }
+        ensures ok { OnOk result (self.new ≡ self.old ++ peer ∷ []) }
+        ensures err { OnErr result (self.new ≡ []) }
     {
         let others = std::mem::replace(self, Neighbors::new(alloc));
         *self = others.with(peer)?;
@@ -163,7 +170,8 @@ impl Neighbors {
 
     fn change_at(&mut self, number: u32, item: RouterItem, place: usize) -> Result<(), ReadRefusal>
         requires { place < length self.old }
-        ensures { Changes result self.new (change_at number item self.old place) }
+        ensures set { Sets result self.new (change_at number item self.old place) }
+        ensures err { OnErr result (self.new ≡ self.old) }
     {
         set_neighbor(number, item, &mut self.items[place])?;
         Ok(())
@@ -176,7 +184,8 @@ impl Neighbors {
         addr: u32,
         item: RouterItem,
     ) -> Result<(), ReadRefusal>
-        ensures { Changes result self.new (at_neighbor number addr (set_neighbor number item) self.old) }
+        ensures set { Sets result self.new (at_neighbor number addr (set_neighbor number item) self.old) }
+        ensures err { OnErr result (self.new ≡ self.old) }
     {
         match self.place_of(addr) {
             Some(place) => self.change_at(number, item, place),

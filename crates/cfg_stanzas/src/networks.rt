@@ -1,6 +1,6 @@
 //! The `network` lines of a BGP process, each once.
 
-ghost use Rattle.std.specs.Prelude.{◌≡◌, ◌∷◌, ◌++◌, [], IfOk, OnOk};
+ghost use Rattle.std.specs.Prelude.{◌≡◌, ◌∷◌, ◌++◌, [], IfOk, OnOk, OnErr};
 ghost use Rattle.cfg_ast.specs.text.Stanzas.{has_network};
 
 use base_kit::{List, NoMemory, Prefix};
@@ -57,9 +57,13 @@ impl Networks {
         Ok(Networks { items, prefixes })
     }
 
-    /// Puts another one behind them. After an error there are none.
+    /// Puts another one behind them.
+    ///
+    /// # Errors
+    /// Out of memory: then none is left.
     pub(crate) fn add(&mut self, alloc: Global, net: NetLine) -> Result<(), NoMemory>
-        ensures { OnOk result (self.new ≡ self.old ++ net ∷ []) }
+        ensures ok { OnOk result (self.new ≡ self.old ++ net ∷ []) }
+        ensures err { OnErr result (self.new ≡ []) }
     {
         let others = std::mem::replace(self, Networks::new(alloc));
         *self = others.with(net)?;

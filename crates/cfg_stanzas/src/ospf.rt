@@ -1,13 +1,15 @@
 //! The lines of an OSPF process, taken one by one.
 
-ghost use Rattle.std.specs.Prelude.{◌≡◌, true, OnOk};
+ghost use Rattle.std.specs.Prelude.{◌≡◌, [], true, OnOk, OnErr};
 ghost use Rattle.cfg_ast.specs.text.Reading.{new_ospf};
 ghost use Rattle.cfg_ast.specs.text.Stanzas.{with_text, with_area, set_ospf};
+ghost use Rattle.cfg_stanzas.specs.Left.{IsLeftOfOspf};
 
 use crate::areas::Areas;
 use crate::names::Names;
 use base_kit::{NoMemory, Text};
 use cfg_ast::{AreaLine, OspfProcess, RouterItem};
+use numbered_names::NameHashing;
 use std::alloc::Global;
 use std::marker::Model;
 
@@ -31,19 +33,21 @@ impl Model for OspfDraft {
 }
 
 impl OspfDraft {
-    pub fn new(alloc: Global, line: u32, number: u32) -> OspfDraft
+    /// A process of that number with no lines yet. The names of interfaces are hashed as given.
+    pub fn new(alloc: Global, hashing: NameHashing, line: u32, number: u32) -> OspfDraft
         ensures { result ≡ new_ospf line number }
     {
         OspfDraft {
             number,
             line,
             passive_default: false,
-            passive: Names::new(alloc),
-            not_passive: Names::new(alloc),
+            passive: Names::new(alloc, hashing),
+            not_passive: Names::new(alloc, hashing),
             areas: Areas::new(alloc),
         }
     }
 
+    /// The process that the lines give.
     pub fn into_process(self) -> OspfProcess
         ensures { result ≡ self }
     {
@@ -67,23 +71,32 @@ impl OspfDraft {
 }
 
 fn add_area(alloc: Global, area: AreaLine, process: &mut OspfDraft) -> Result<(), NoMemory>
-    ensures { OnOk result (process.new ≡ record process.old { areas = with_area process.old.areas area }) }
+    ensures ok { OnOk result (process.new ≡ record process.old { areas = with_area process.old.areas area }) }
+    ensures err { OnErr result (process.new ≡ record process.old { areas = [] }) }
 {
     process.areas.add(alloc, area)
 }
 
 fn add_passive(alloc: Global, name: Text, process: &mut OspfDraft) -> Result<(), NoMemory>
-    ensures { OnOk result (process.new ≡ record process.old { passive = with_text process.old.passive name }) }
+    ensures ok { OnOk result (process.new ≡ record process.old { passive = with_text process.old.passive name }) }
+    ensures err { OnErr result (process.new ≡ record process.old { passive = [] }) }
 {
-    let names = std::mem::replace(&mut process.passive, Names::new(alloc));
+    let names = std::mem::replace(
+        &mut process.passive,
+        Names::new(alloc, NameHashing::plain()),
+    );
     process.passive = names.with(alloc, name)?;
     Ok(())
 }
 
 fn add_not_passive(alloc: Global, name: Text, process: &mut OspfDraft) -> Result<(), NoMemory>
-    ensures { OnOk result (process.new ≡ record process.old { not_passive = with_text process.old.not_passive name }) }
+    ensures ok { OnOk result (process.new ≡ record process.old { not_passive = with_text process.old.not_passive name }) }
+    ensures err { OnErr result (process.new ≡ record process.old { not_passive = [] }) }
 {
-    let names = std::mem::replace(&mut process.not_passive, Names::new(alloc));
+    let names = std::mem::replace(
+        &mut process.not_passive,
+        Names::new(alloc, NameHashing::plain()),
+    );
     process.not_passive = names.with(alloc, name)?;
     Ok(())
 }
@@ -95,9 +108,13 @@ fn set_passive_default(process: &mut OspfDraft)
 }
 
 /// Adds to the process what one of its lines says.
+///
+/// # Errors
+/// Out of memory: then the list to which the line adds is empty.
 #[tactic(auto, unfolding(cfg_ast::specs::text::Stanzas::set_ospf))]
 pub fn set_ospf(alloc: Global, item: RouterItem, process: &mut OspfDraft) -> Result<(), NoMemory>
-    ensures { OnOk result (process.new ≡ set_ospf item process.old) }
+    ensures ok { OnOk result (process.new ≡ set_ospf item process.old) }
+    ensures err { OnErr result (IsLeftOfOspf item process.old process.new) }
 {
     match item {
         RouterItem::Area(area) => add_area(alloc, area, process),
