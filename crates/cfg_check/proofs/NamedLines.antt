@@ -9,10 +9,11 @@ use Rattle.cfg_ast.specs.declared.policy.Prepend.{Prepend}
 use Rattle.cfg_ast.specs.meaning.Topology.{has_number}
 use Rattle.cfg_ast.specs.meaning.PolicyFaults.{line_naming, match_line_naming, several_at, several_in, foreign_prepend}
 use Rattle.cfg_check.specs.LeastLine.{least_line}
-use Rattle.cfg_check.specs.NameSets.{Names, has_name}
+use Rattle.numbered_names.specs.NameSets.{has_name}
+use Rattle.numbered_names.specs.declared.sets.NameSet.{NameSet}
 
 -- what a look-up in a set of names found
-pub found : (names : Names) (q name : List ℕ) (answer b : Bool) → answer ≡ has_name names q → q ≡ name → answer ≡ b → has_name names name ≡ b
+pub found : (names : NameSet) (q name : List ℕ) (answer b : Bool) → answer ≡ has_name names q → q ≡ name → answer ≡ b → has_name names name ≡ b
 found names q name answer b is same given = ap (has_name names) (sym same) ∙ sym is ∙ given
 
 least_when : (b : Bool) (line : ℕ) (wanted : Bool) → wanted ≡ b → least_line (cond wanted (line ∷ []) []) ≡ cond b (Some line) None

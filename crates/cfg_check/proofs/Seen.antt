@@ -1,11 +1,13 @@
 -- Sets of the keys that were seen so far.
-use Rattle.std.proofs.Common.{◌≡◌, ◌<◌, ℕ, ◌+◌, Bool, true, false, cond, ◌||◌, List, [], ◌∷◌, ◌++◌, length, get_or, take, refl, sym, ap, ◌∙◌, arith, Bor, nat_eq}
+use Rattle.std.proofs.Common.{◌≡◌, ◌<◌, ℕ, ◌+◌, Bool, true, false, cond, ◌||◌, List, [], ◌∷◌, ◌++◌, length, get_or, take, refl, sym, ap, ◌∙◌, arith, nat_eq}
 use Rattle.std.specs.Prelude.{bytes_eq}
 use Rattle.std.specs.List.{list_any}
-use Rattle.std.specs.HashSet.{HashSet, contains, contains_by, Updates}
+use Rattle.std.specs.HashSet.{HashSet, contains, Updates}
 use Rattle.std.proofs.lemmas.List.{take_more}
 use Rattle.std.proofs.lemmas.List.Folds.{list_any-append}
 use Rattle.std.proofs.lemmas.Bool.Decides.{nat_tests}
+use Rattle.numbered_names.specs.declared.sets.NameSet.{NameSet}
+use Rattle.numbered_names.specs.NameSets.{has_name, Adds}
 
 pub same_either_way : (m n : ℕ) → nat_eq m n ≡ nat_eq n m
 same_either_way m n = grind (arith, nat_tests)
@@ -30,17 +32,20 @@ any_more {X} p xs i x below here =
     ∙ sym (list_any-append p (take i xs) (x ∷ []))
     ∙ ap (λ (l : List X). list_any p l) (sym (take_more xs i x below ∙ ap (λ (y : X). take i xs ++ y ∷ []) (sym here)))
 
--- a set of texts, after a text was put in
-pub text_turn : {X S : Type 0} (name : X → List ℕ) (xs : List X) (i : ℕ) (x : X) (old new : HashSet (Bor (List ℕ)) S) (key : Bor (List ℕ)) → i < length xs →
-    x ≡ get_or xs i x → key.now ≡ name x
-    → Updates (λ x y. bytes_eq x.now y.now) old new key true
-    → ((q : List ℕ) → contains_by (λ k. bytes_eq q k.now) old ≡ list_any (λ y. bytes_eq q (name y)) (take i xs))
-    → (q : List ℕ) → contains_by (λ k. bytes_eq q k.now) new ≡ list_any (λ y. bytes_eq q (name y)) (take (i + 1) xs)
+pub or_cond : (a b : Bool) → (a || b) ≡ cond a true b
+or_cond true b = refl
+or_cond false b = refl
+
+-- a set of names, after a name was put in
+pub text_turn : {X : Type 0} (name : X → List ℕ) (xs : List X) (i : ℕ) (x : X) (old new : NameSet) (key : List ℕ) → i < length xs → x ≡ get_or xs i x →
+    key ≡ name x → Adds old new key
+    → ((q : List ℕ) → has_name old q ≡ list_any (λ y. bytes_eq q (name y)) (take i xs))
+    → (q : List ℕ) → has_name new q ≡ list_any (λ y. bytes_eq q (name y)) (take (i + 1) xs)
 text_turn name xs i x old new key below here is step so_far q =
-    let at : Bor (List ℕ) = record { ref_ptr = (0, 0); now = q } in
-    step.0 at
-    ∙ ap (λ b. cond b true (contains_by (λ k. bytes_eq q k.now) old)) (bytes_eq-sym key.now q ∙ ap (bytes_eq q) is)
-    ∙ ap (λ b. cond (bytes_eq q (name x)) true b) (so_far q)
+    step.each q
+    ∙ ap (λ (k : List ℕ). bytes_eq q k || has_name old q) is
+    ∙ ap (λ b. bytes_eq q (name x) || b) (so_far q)
+    ∙ or_cond (bytes_eq q (name x)) (list_any (λ y. bytes_eq q (name y)) (take i xs))
     ∙ any_more (λ y. bytes_eq q (name y)) xs i x below here
 
 -- a set of numbers, after a number was put in

@@ -12,8 +12,8 @@ use crate::area_table::AreaTable;
 use crate::processes::areas;
 use base_kit::{NoMemory, Text};
 use cfg_ast::{Address, Interface, Router};
+use numbered_names::{NameHashing, NameSet};
 use std::alloc::Global;
-use std::collections::HashSet;
 
 // So many names are compared one by one: to look one up in a set takes longer.
 const FEW: usize = 4;
@@ -23,7 +23,7 @@ const FEW: usize = 4;
 pub struct AreaIndex<'a> {
     pub router: &'a Router,
     table: AreaTable<'a>,
-    names: HashSet<&'a str>,
+    names: NameSet<'a>,
     pub ghost lines: { table.lines.now ≡ areas_of router.now },
     pub ghost listed: { 4 < length (listed_of router.now.ospf) → HasNames names (λ q. list_any (bytes_eq q) (listed_of router.now.ospf)) },
 }
@@ -46,10 +46,10 @@ fn listed(router: &Router) -> &[Text]
 }
 
 // The set of the names. It is used only if they are many.
-fn name_set(alloc: Global, texts: &[Text]) -> Result<HashSet<&str>, NoMemory>
+fn name_set(alloc: Global, texts: &[Text]) -> Result<NameSet<'_>, NoMemory>
     ensures { IfOk result (λ names. 4 < length texts.now → HasNames names (λ q. list_any (bytes_eq q) texts.now)) }
 {
-    let mut names: HashSet<&str> = HashSet::new(alloc);
+    let mut names = NameSet::new(alloc, NameHashing::of(texts));
     if texts.len() <= FEW {
         return Ok(names);
     }

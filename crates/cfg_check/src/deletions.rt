@@ -3,14 +3,14 @@
 ghost use Rattle.std.specs.Prelude.{◌≡◌, IfOk, flat_map, length, nat_lt};
 ghost use Rattle.cfg_ast.specs.meaning.PolicyFaults.{several_at, several_in, wide_deletions_of};
 ghost use Rattle.cfg_check.specs.LeastLine.{least_line};
-ghost use Rattle.cfg_check.specs.NameSets.{has_name};
+ghost use Rattle.numbered_names.specs.NameSets.{has_name};
 
 use crate::least::{lesser_line, with_line_if};
 use crate::name_sets::deleted_names;
 use base_kit::NoMemory;
 use cfg_ast::{CommunityLine, CommunityList, Router};
+use numbered_names::NameSet;
 use std::alloc::Global;
-use std::collections::HashSet;
 
 fn names_several(line: &CommunityLine) -> bool
     ensures { result ≡ nat_lt 1 (length line.now.comms) }
@@ -28,7 +28,7 @@ fn several_in_lines(lines: &[CommunityLine]) -> Option<u32>
     least
 }
 
-fn several_in_list(names: &HashSet<&str>, list: &CommunityList) -> Option<u32>
+fn several_in_list(names: &NameSet<'_>, list: &CommunityList) -> Option<u32>
     ensures { result ≡ least_line (several_in (has_name names.now) list.now) }
 {
     if !names.contains(list.name.as_str()) {
@@ -37,7 +37,7 @@ fn several_in_list(names: &HashSet<&str>, list: &CommunityList) -> Option<u32>
     several_in_lines(list.lines.as_slice())
 }
 
-fn several_in_lists(names: &HashSet<&str>, lists: &[CommunityList]) -> Option<u32>
+fn several_in_lists(names: &NameSet<'_>, lists: &[CommunityList]) -> Option<u32>
     ensures { result ≡ least_line (flat_map (several_in (has_name names.now)) lists.now) }
 {
     let mut least = None;

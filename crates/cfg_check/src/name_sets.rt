@@ -11,14 +11,14 @@ ghost use Rattle.cfg_check.specs.NameSets.{HasNames, AddsNames};
 
 use base_kit::NoMemory;
 use cfg_ast::{CommunityList, MapEntry, PrefixList, RouteMap};
+use numbered_names::{NameDigest, NameHashing, NameSet};
 use std::alloc::Global;
-use std::collections::HashSet;
 
 /// The names of the route maps.
-pub(crate) fn map_names(alloc: Global, maps: &[RouteMap]) -> Result<HashSet<&str>, NoMemory>
+pub(crate) fn map_names(alloc: Global, maps: &[RouteMap]) -> Result<NameSet<'_>, NoMemory>
     ensures { IfOk result (λ names. HasNames names (λ q. list_any (λ (map : RouteMap). bytes_eq q map.name) maps.now)) }
 {
-    let mut names: HashSet<&str> = HashSet::new(alloc);
+    let mut names = NameSet::new(alloc, NameHashing::of(maps));
     for map in maps {
         names.insert(map.name.as_str())?;
     }
@@ -29,10 +29,10 @@ pub(crate) fn map_names(alloc: Global, maps: &[RouteMap]) -> Result<HashSet<&str
 pub(crate) fn prefix_list_names(
     alloc: Global,
     lists: &[PrefixList],
-) -> Result<HashSet<&str>, NoMemory>
+) -> Result<NameSet<'_>, NoMemory>
     ensures { IfOk result (λ names. HasNames names (λ q. list_any (λ (list : PrefixList). bytes_eq q list.name) lists.now)) }
 {
-    let mut names: HashSet<&str> = HashSet::new(alloc);
+    let mut names = NameSet::new(alloc, NameHashing::of(lists));
     for list in lists {
         names.insert(list.name.as_str())?;
     }
@@ -43,10 +43,10 @@ pub(crate) fn prefix_list_names(
 pub(crate) fn community_list_names(
     alloc: Global,
     lists: &[CommunityList],
-) -> Result<HashSet<&str>, NoMemory>
+) -> Result<NameSet<'_>, NoMemory>
     ensures { IfOk result (λ names. HasNames names (λ q. list_any (λ (list : CommunityList). bytes_eq q list.name) lists.now)) }
 {
-    let mut names: HashSet<&str> = HashSet::new(alloc);
+    let mut names = NameSet::new(alloc, NameHashing::of(lists));
     for list in lists {
         names.insert(list.name.as_str())?;
     }
@@ -54,7 +54,7 @@ pub(crate) fn community_list_names(
 }
 
 // Puts in the name of the list that the entry deletes by.
-fn keep_deletion<'a>(names: &mut HashSet<&'a str>, entry: &'a MapEntry) -> Result<(), NoMemory>
+fn keep_deletion<'a>(names: &mut NameSet<'a>, entry: &'a MapEntry) -> Result<(), NoMemory>
     ensures { OnOk result (AddsNames names.old names.new (λ q. is_name q entry.now.delete)) }
 {
     let Some(named) = &entry.delete else {
@@ -64,7 +64,7 @@ fn keep_deletion<'a>(names: &mut HashSet<&'a str>, entry: &'a MapEntry) -> Resul
     Ok(())
 }
 
-fn keep_deletions<'a>(names: &mut HashSet<&'a str>, entries: &'a [MapEntry]) -> Result<(), NoMemory>
+fn keep_deletions<'a>(names: &mut NameSet<'a>, entries: &'a [MapEntry]) -> Result<(), NoMemory>
     ensures { OnOk result (AddsNames names.old names.new (λ q. list_any (λ (entry : MapEntry). is_name q entry.delete) entries.now)) }
 {
     for entry in entries {
@@ -73,11 +73,24 @@ fn keep_deletions<'a>(names: &mut HashSet<&'a str>, entries: &'a [MapEntry]) -> 
     Ok(())
 }
 
+// How the names of the lists that entries delete by are hashed.
+fn hashing_of_deletions(maps: &[RouteMap]) -> NameHashing {
+    let mut names = NameDigest::new();
+    for map in maps {
+        for entry in map.entries.as_slice() {
+            if let Some(named) = &entry.delete {
+                names.add(named.name.as_str().as_bytes());
+            }
+        }
+    }
+    names.hashing()
+}
+
 /// The names of the lists that some `set comm-list` line names.
-pub(crate) fn deleted_names(alloc: Global, maps: &[RouteMap]) -> Result<HashSet<&str>, NoMemory>
+pub(crate) fn deleted_names(alloc: Global, maps: &[RouteMap]) -> Result<NameSet<'_>, NoMemory>
     ensures { IfOk result (λ names. HasNames names (λ q. list_any (is_deleted_in q) maps.now)) }
 {
-    let mut names: HashSet<&str> = HashSet::new(alloc);
+    let mut names = NameSet::new(alloc, hashing_of_deletions(maps));
     for map in maps {
         keep_deletions(&mut names, map.entries.as_slice())?;
     }
@@ -94,7 +107,7 @@ fn prepends(map: &RouteMap) -> bool
 }
 
 // Puts in the name of the map if some entry of it prepends.
-fn keep_if_prepending<'a>(names: &mut HashSet<&'a str>, map: &'a RouteMap) -> Result<(), NoMemory>
+fn keep_if_prepending<'a>(names: &mut NameSet<'a>, map: &'a RouteMap) -> Result<(), NoMemory>
     ensures { OnOk result (AddsNames names.old names.new (λ q. prepends_in_map map.now && bytes_eq q map.now.name)) }
 {
     if !prepends(map) {
@@ -105,10 +118,10 @@ fn keep_if_prepending<'a>(names: &mut HashSet<&'a str>, map: &'a RouteMap) -> Re
 }
 
 /// The names of the route maps in which some entry has `set as-path prepend`.
-pub(crate) fn prepending_names(alloc: Global, maps: &[RouteMap]) -> Result<HashSet<&str>, NoMemory>
+pub(crate) fn prepending_names(alloc: Global, maps: &[RouteMap]) -> Result<NameSet<'_>, NoMemory>
     ensures { IfOk result (λ names. HasNames names (λ q. list_any (λ (map : RouteMap). prepends_in_map map && bytes_eq q map.name) maps.now)) }
 {
-    let mut names: HashSet<&str> = HashSet::new(alloc);
+    let mut names = NameSet::new(alloc, NameHashing::of(maps));
     for map in maps {
         keep_if_prepending(&mut names, map)?;
     }

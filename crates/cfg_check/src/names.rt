@@ -8,14 +8,14 @@ ghost use Rattle.cfg_check.specs.LeastLine.{least_line};
 use crate::least::with_line_if;
 use base_kit::NoMemory;
 use cfg_ast::Router;
+use numbered_names::{NameHashing, NameSet};
 use std::alloc::Global;
-use std::collections::HashSet;
 
 /// The least `hostname` line that repeats an earlier router's name.
 pub(crate) fn shared_name(alloc: Global, routers: &[Router]) -> Result<Option<u32>, NoMemory>
     ensures { IfOk result (λ line. line ≡ least_line (map router_line (repeats same_name routers.now))) }
 {
-    let mut seen: HashSet<&str> = HashSet::new(alloc);
+    let mut seen = NameSet::new(alloc, NameHashing::of(routers));
     let mut least = None;
     for router in routers {
         let is_new = seen.insert(router.name.as_str())?;

@@ -6,15 +6,15 @@ ghost use Rattle.cfg_ast.specs.meaning.Topology.{has_number};
 ghost use Rattle.cfg_ast.specs.meaning.PolicyFaults.{line_naming, foreign_prepends_in_map, foreign_prepends_of, prepending_maps_in_of};
 ghost use Rattle.cfg_check.specs.Items.{map_in_naming, foreign_prepend_in};
 ghost use Rattle.cfg_check.specs.LeastLine.{least_line};
-ghost use Rattle.cfg_check.specs.NameSets.{has_name};
+ghost use Rattle.numbered_names.specs.NameSets.{has_name};
 
 use crate::least::lesser_line;
 use crate::limits::neighbors;
 use crate::name_sets::prepending_names;
 use base_kit::NoMemory;
 use cfg_ast::{MapEntry, Named, Neighbor, RouteMap, Router};
+use numbered_names::NameSet;
 use std::alloc::Global;
-use std::collections::HashSet;
 
 fn has_number(router: &Router, number: u32) -> bool
     ensures { result ≡ has_number router.now number }
@@ -75,7 +75,7 @@ pub(crate) fn prepend_form(routers: &[Router]) -> Option<u32>
 }
 
 // The line, if it gives a name that is in the set.
-fn line_having(names: &HashSet<&str>, named: &Option<Named>) -> Option<u32>
+fn line_having(names: &NameSet<'_>, named: &Option<Named>) -> Option<u32>
     ensures { result ≡ least_line (line_naming (has_name names.now) named.now) }
 {
     let Some(named) = named else { return None };
@@ -85,7 +85,7 @@ fn line_having(names: &HashSet<&str>, named: &Option<Named>) -> Option<u32>
     Some(named.line)
 }
 
-fn prepending_maps_in(names: &HashSet<&str>, neighbors: &[Neighbor]) -> Option<u32>
+fn prepending_maps_in(names: &NameSet<'_>, neighbors: &[Neighbor]) -> Option<u32>
     ensures { result ≡ least_line (flat_map (map_in_naming (has_name names.now)) neighbors.now) }
 {
     let mut least = None;

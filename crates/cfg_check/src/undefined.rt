@@ -11,11 +11,11 @@ use crate::limits::neighbors;
 use crate::name_sets::{community_list_names, map_names, prefix_list_names};
 use base_kit::{NoMemory, Text};
 use cfg_ast::{MapEntry, NameLine, Named, Neighbor, RouteMap, Router};
+use numbered_names::NameSet;
 use std::alloc::Global;
-use std::collections::HashSet;
 
 // The line, if it gives a name that is not in the set.
-fn line_lacking(names: &HashSet<&str>, named: &Option<Named>) -> Option<u32>
+fn line_lacking(names: &NameSet<'_>, named: &Option<Named>) -> Option<u32>
     ensures { result ≡ least_line (line_naming (lacks_name names.now) named.now) }
 {
     let Some(named) = named else { return None };
@@ -25,14 +25,14 @@ fn line_lacking(names: &HashSet<&str>, named: &Option<Named>) -> Option<u32>
     Some(named.line)
 }
 
-fn lacks_one(names: &HashSet<&str>, all: &[Text]) -> bool
+fn lacks_one(names: &NameSet<'_>, all: &[Text]) -> bool
     ensures { result ≡ list_any (lacks_name names.now) all.now }
 {
     all.iter().any(|name| !names.contains(name.as_str()))
 }
 
 // The match line, if it gives a name that is not in the set.
-fn match_line_lacking(names: &HashSet<&str>, line: &Option<NameLine>) -> Option<u32>
+fn match_line_lacking(names: &NameSet<'_>, line: &Option<NameLine>) -> Option<u32>
     ensures { result ≡ least_line (match_line_naming (lacks_name names.now) line.now) }
 {
     let Some(line) = line else { return None };
@@ -42,7 +42,7 @@ fn match_line_lacking(names: &HashSet<&str>, line: &Option<NameLine>) -> Option<
     Some(line.line)
 }
 
-fn undefined_maps_at(names: &HashSet<&str>, neighbor: &Neighbor) -> Option<u32>
+fn undefined_maps_at(names: &NameSet<'_>, neighbor: &Neighbor) -> Option<u32>
     ensures { result ≡ least_line (map_lines_naming (lacks_name names.now) neighbor.now) }
 {
     let line_in = line_lacking(names, &neighbor.map_in);
@@ -50,7 +50,7 @@ fn undefined_maps_at(names: &HashSet<&str>, neighbor: &Neighbor) -> Option<u32>
     lesser_line(line_in, line_out)
 }
 
-fn undefined_maps_in(names: &HashSet<&str>, neighbors: &[Neighbor]) -> Option<u32>
+fn undefined_maps_in(names: &NameSet<'_>, neighbors: &[Neighbor]) -> Option<u32>
     ensures { result ≡ least_line (flat_map (map_lines_naming (lacks_name names.now)) neighbors.now) }
 {
     let mut least = None;
@@ -78,7 +78,7 @@ pub(crate) fn undefined_map(alloc: Global, routers: &[Router]) -> Result<Option<
     Ok(least)
 }
 
-fn undefined_lists_at(names: &HashSet<&str>, neighbor: &Neighbor) -> Option<u32>
+fn undefined_lists_at(names: &NameSet<'_>, neighbor: &Neighbor) -> Option<u32>
     ensures { result ≡ least_line (list_lines_naming (lacks_name names.now) neighbor.now) }
 {
     let line_in = line_lacking(names, &neighbor.list_in);
@@ -86,7 +86,7 @@ fn undefined_lists_at(names: &HashSet<&str>, neighbor: &Neighbor) -> Option<u32>
     lesser_line(line_in, line_out)
 }
 
-fn undefined_lists_by_neighbors(names: &HashSet<&str>, neighbors: &[Neighbor]) -> Option<u32>
+fn undefined_lists_by_neighbors(names: &NameSet<'_>, neighbors: &[Neighbor]) -> Option<u32>
     ensures { result ≡ least_line (flat_map (list_lines_naming (lacks_name names.now)) neighbors.now) }
 {
     let mut least = None;
@@ -97,8 +97,8 @@ fn undefined_lists_by_neighbors(names: &HashSet<&str>, neighbors: &[Neighbor]) -
 }
 
 fn undefined_lists_in_entry(
-    prefixes: &HashSet<&str>,
-    comms: &HashSet<&str>,
+    prefixes: &NameSet<'_>,
+    comms: &NameSet<'_>,
     entry: &MapEntry,
 ) -> Option<u32>
     ensures { result ≡ least_line (entry_lines_naming (lacks_name prefixes.now) (lacks_name comms.now) entry.now) }
@@ -110,8 +110,8 @@ fn undefined_lists_in_entry(
 }
 
 fn undefined_lists_in_map(
-    prefixes: &HashSet<&str>,
-    comms: &HashSet<&str>,
+    prefixes: &NameSet<'_>,
+    comms: &NameSet<'_>,
     map: &RouteMap,
 ) -> Option<u32>
     ensures { result ≡ least_line (lines_in_map_naming (lacks_name prefixes.now) (lacks_name comms.now) map.now) }
@@ -124,8 +124,8 @@ fn undefined_lists_in_map(
 }
 
 fn undefined_lists_by_maps(
-    prefixes: &HashSet<&str>,
-    comms: &HashSet<&str>,
+    prefixes: &NameSet<'_>,
+    comms: &NameSet<'_>,
     maps: &[RouteMap],
 ) -> Option<u32>
     ensures { result ≡ least_line (flat_map (lines_in_map_naming (lacks_name prefixes.now) (lacks_name comms.now)) maps.now) }

@@ -1,6 +1,6 @@
 use Rattle.std.proofs.Common.{◌∙◌}
 use Rattle.cfg_ast.specs.meaning.PolicyFaults.{several_in}
-use Rattle.cfg_check.specs.NameSets.{has_name}
+use Rattle.numbered_names.specs.NameSets.{has_name}
 use Rattle.cfg_check.proofs.Turns.{lines_step}
 use Rattle.cfg_check.proofs.deletions.several_in_lists.Goals as goal
 

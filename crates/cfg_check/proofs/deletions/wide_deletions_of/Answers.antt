@@ -4,7 +4,7 @@ use Rattle.cfg_ast.specs.declared.policy.CommunityList.{CommunityList}
 use Rattle.cfg_ast.specs.declared.policy.RouteMap.{RouteMap}
 use Rattle.cfg_ast.specs.meaning.PolicyFaults.{is_deleted_in, is_deleted, several_in}
 use Rattle.cfg_check.specs.LeastLine.{least_line}
-use Rattle.cfg_check.specs.NameSets.{has_name}
+use Rattle.numbered_names.specs.NameSets.{has_name}
 use Rattle.cfg_check.proofs.NameTurns.{has_is}
 use Rattle.cfg_check.proofs.deletions.wide_deletions_of.Goals as goal
 

@@ -3,7 +3,7 @@ use Rattle.std.specs.List.{list_any}
 use Rattle.cfg_ast.specs.declared.policy.MapEntry.{MapEntry}
 use Rattle.cfg_ast.specs.declared.policy.RouteMap.{RouteMap}
 use Rattle.cfg_ast.specs.meaning.PolicyFaults.{is_name, is_deleted_in}
-use Rattle.cfg_check.specs.NameSets.{has_name}
+use Rattle.numbered_names.specs.NameSets.{has_name}
 use Rattle.cfg_check.proofs.NameTurns.{has_turn}
 use Rattle.cfg_check.proofs.name_sets.deleted_names.Goals as goal
 

@@ -5,5 +5,5 @@ use Rattle.cfg_check.proofs.name_sets.prefix_list_names.Goals as goal
 pub loop-list-preserved : goal.loop-list-preserved
 loop-list-preserved c = record {
   each = text_turn (λ (x : PrefixList). x.name) c.args.lists.now c.loop-list.list-index c.list-item.result c.loop-list.names
-      c.insert.new.self c.as_str.result c.loop-list-test.true c.list-item.is c.as_str.ensures c.in_ok-insert.ensures.updates c.loop-list.invariant.each;
+      c.insert.new.self c.as_str.result.now c.loop-list-test.true c.list-item.is c.as_str.ensures c.in_ok-insert.ensures.adds c.loop-list.invariant.each;
 }

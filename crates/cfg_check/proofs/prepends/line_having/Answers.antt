@@ -1,5 +1,5 @@
 use Rattle.std.proofs.Common.{true, false, sym}
-use Rattle.cfg_check.specs.NameSets.{has_name}
+use Rattle.numbered_names.specs.NameSets.{has_name}
 use Rattle.cfg_check.proofs.NamedLines.{found, named_line}
 use Rattle.cfg_check.proofs.prepends.line_having.Goals as goal
 

@@ -1,6 +1,6 @@
 use Rattle.std.proofs.Common.{◌≡◌, take, flat_map}
 use Rattle.cfg_check.specs.Items.{map_in_naming}
-use Rattle.cfg_check.specs.NameSets.{has_name}
+use Rattle.numbered_names.specs.NameSets.{has_name}
 use Rattle.cfg_check.specs.LeastLine.{least_line}
 use Rattle.cfg_check.proofs.prepends.prepending_maps_in.Given as goal
 

@@ -6,7 +6,7 @@ use Rattle.cfg_ast.specs.declared.policy.RouteMap.{RouteMap}
 use Rattle.cfg_ast.specs.meaning.PolicyFaults.{prepends_in_map, has_prepending_map}
 use Rattle.cfg_check.specs.Items.{map_in_naming}
 use Rattle.cfg_check.specs.LeastLine.{least_line}
-use Rattle.cfg_check.specs.NameSets.{has_name}
+use Rattle.numbered_names.specs.NameSets.{has_name}
 use Rattle.cfg_check.proofs.NameTurns.{has_is}
 use Rattle.cfg_check.proofs.prepends.prepending_maps_in_of.Goals as goal
 
