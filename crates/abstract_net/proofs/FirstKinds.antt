@@ -27,13 +27,13 @@ same_side false false e = refl
 same_number : (a b : ℕ) → nat_eq a b ≡ true → a ≡ b
 same_number a b e = grind (arith, nat_tests)
 
-record IsSameKind (x y : Step) : Type 0 where
-  low : x.low ≡ y.low
-  high : x.high ≡ y.high
-  into_low : x.into_low ≡ y.into_low
-  act : x.act ≡ y.act
+pub record IsSameKind (x y : Step) : Type 0 where
+  pub low : x.low ≡ y.low
+  pub high : x.high ≡ y.high
+  pub into_low : x.into_low ≡ y.into_low
+  pub act : x.act ≡ y.act
 
-kinds_are : (x y : Step) → same_kind x y ≡ true → IsSameKind x y
+pub kinds_are : (x y : Step) → same_kind x y ≡ true → IsSameKind x y
 kinds_are x y e =
     let ends = left_of (nat_eq x.low y.low && nat_eq x.high y.high) (beq x.into_low y.into_low && nat_eq x.act y.act) e in
     let rest = right_of (nat_eq x.low y.low && nat_eq x.high y.high) (beq x.into_low y.into_low && nat_eq x.act y.act) e in

@@ -1,6 +1,7 @@
 mod ByLink
 pub mod Carried
 mod Cells
+mod EarlySteps
 pub mod Fewer
 mod FirstKinds
 mod Places

@@ -1,10 +1,11 @@
 //! Edges between groups, in the order in which their links stand.
 
-ghost use Rattle.std.specs.Prelude.{◌≡◌, ℕ, ◌<◌, ◌^◌, ◌++◌, true, List, All, IfOk, OnOk, length};
+ghost use Rattle.std.specs.Prelude.{◌≡◌, ℕ, ◌<◌, ◌^◌, ◌++◌, true, List, All, IfOk, OnOk, IfSome, length};
 ghost use Rattle.std.specs.List.{cons_option};
 ghost use Rattle.base_kit.specs.Partition.{IsNumbered};
 ghost use Rattle.by_key.specs.ByKey.{by_key};
-ghost use Rattle.abstract_net.specs.GroupSteps.{step_of, low_of, high_of, same_kind, first_kinds, first_steps, sorted_steps};
+ghost use Rattle.abstract_net.specs.Early.{link_of, HasEarlier, PutsEarly, AreEarly};
+ghost use Rattle.abstract_net.specs.GroupSteps.{step_of, low_of, high_of, same_kind, first_kinds, none_met, first_steps, sorted_steps};
 ghost use Rattle.abstract_net.specs.Met.{is_met, AreMet, HasKind};
 
 use crate::by_link::places_by_link;
@@ -91,8 +92,73 @@ fn push_first(
     Ok(())
 }
 
-// The first step of each kind, by links.
-fn first_steps(alloc: Global, edges: &[Edge], p: &Partition) -> Result<Vec<Step>, NoMemory>
+// Whether one of the steps is of the kind of this one, on a link that is no higher.
+fn has_earlier(steps: &[Step], step: &Step) -> bool
+    ensures { result ≡ true → HasEarlier steps.now step.now }
+{
+    for place in 0..steps.len() {
+        if is_same_kind(&steps[place], step) && steps[place].link <= step.link {
+            return true;
+        }
+    }
+    false
+}
+
+// Puts a step last, unless one of its kind stands there, on a link that is no higher.
+fn push_early(steps: &mut Vec<Step>, step: Option<Step>) -> Result<(), NoMemory>
+    ensures { OnOk result (PutsEarly steps.old.items steps.new.items step) }
+{
+    if let Some(step) = step {
+        if has_earlier(steps, &step) {
+            return Ok(());
+        }
+        steps.push(step)?;
+    }
+    Ok(())
+}
+
+// No more steps than this are kept to be sorted by their links.
+const MANY: usize = 64;
+
+// Some steps with the first of each kind by links, unless they are many.
+fn early_steps(alloc: Global, edges: &[Edge], p: &Partition) -> Result<Option<Vec<Step>>, NoMemory>
+    requires few { length edges.now < 2 ^ 32 }
+    requires importers { All (λ e. e.importer < length p.now) edges.now }
+    requires exporters { All (λ e. e.exporter < length p.now) edges.now }
+    ensures { IfOk result (λ early. IfSome early (λ steps. AreEarly edges.now p.now (length edges.now) steps.items)) }
+{
+    let mut steps = Vec::new(alloc);
+    for place in 0..edges.len() {
+        let step = step_of(p, place as u32, &edges[place]);
+        push_early(&mut steps, step)?;
+        if steps.len() > MANY {
+            return Ok(None);
+        }
+    }
+    Ok(Some(steps))
+}
+
+fn sort_by_link(steps: &mut Vec<Step>) -> Result<(), NoMemory>
+    ensures { IfOk result (λ _. (n : ℕ) → All (λ (step : Step). step.link < n) steps.old.items → steps.new.items ≡ by_key link_of n steps.old.items) }
+{
+    steps.sort_by_key(|step| step.link)?;
+    Ok(())
+}
+
+// The first step of each kind.
+fn first_of_each(alloc: Global, steps: &[Step]) -> Result<Vec<Step>, NoMemory>
+    ensures { IfOk result (λ found. found.items ≡ first_kinds none_met steps.now) }
+{
+    let mut met: HashSet<Kind> = HashSet::new(alloc);
+    let mut found = Vec::new(alloc);
+    for step in steps {
+        push_first(&mut met, &mut found, Some(*step))?;
+    }
+    Ok(found)
+}
+
+// The first step of each kind, by links. It orders all edges by their links.
+fn first_steps_of_all(alloc: Global, edges: &[Edge], p: &Partition) -> Result<Vec<Step>, NoMemory>
     requires few { length edges.now < 2 ^ 32 }
     requires importers { All (λ e. e.importer < length p.now) edges.now }
     requires exporters { All (λ e. e.exporter < length p.now) edges.now }
@@ -105,6 +171,22 @@ fn first_steps(alloc: Global, edges: &[Edge], p: &Partition) -> Result<Vec<Step>
         let step = step_of(p, *place, &edges[*place as usize]);
         push_first(&mut met, &mut steps, step)?;
     }
+    Ok(steps)
+}
+
+// The first step of each kind, by links. Where few steps can be first, only these are ordered.
+fn first_steps(alloc: Global, edges: &[Edge], p: &Partition) -> Result<Vec<Step>, NoMemory>
+    requires few { length edges.now < 2 ^ 32 }
+    requires importers { All (λ e. e.importer < length p.now) edges.now }
+    requires exporters { All (λ e. e.exporter < length p.now) edges.now }
+    ensures { IfOk result (λ steps. steps.items ≡ first_steps edges.now p.now) }
+{
+    let Some(early) = early_steps(alloc, edges, p)? else {
+        return first_steps_of_all(alloc, edges, p);
+    };
+    let mut sorted = early;
+    sort_by_link(&mut sorted)?;
+    let steps = first_of_each(alloc, &sorted)?;
     Ok(steps)
 }
 

@@ -12,7 +12,7 @@ use Rattle.refine_partition.specs.Splitting.{blocks_of, AreNumbersOf, IsSplitOf}
 use Rattle.refine_partition.specs.Numbering.{IsNumbering}
 use Rattle.refine_partition.specs.Loose.{AreUsed, IsDividedAsSplit}
 use Rattle.refine_partition.specs.Runs.{taken_at, AreReachedBy}
-use Rattle.refine_partition.specs.Pending.{AreSplitSoFar}
+use Rattle.refine_partition.specs.Pending.{AreAllTaken, AreSplitSoFar}
 use Rattle.refine_partition.proofs.NumberingLemmas.{used_at}
 use Rattle.refine_partition.proofs.DivisionLemmas.{members_same}
 use Rattle.refine_partition.proofs.SplittingLemmas.{block_at}
@@ -141,13 +141,28 @@ split_more graph splits taken slots next before after total used known so_far di
 
 -- groups that are equal where the blocks are
 pub reached_by : (graph : ActGraph) (splits : ℕ) (slots groups : List ℕ) (count group_count : ℕ) → length slots ≡ graph.count →
-    AreSplitSoFar graph splits slots count → length groups ≡ length slots → IsNumbering slots groups group_count → AreReachedBy graph splits groups
-reached_by graph splits slots groups count group_count total so_far size numbering =
+    AreAllTaken graph splits slots count → length groups ≡ length slots → IsNumbering slots groups group_count → AreReachedBy graph splits groups
+reached_by graph splits slots groups count group_count total taken size numbering =
+    let so_far = taken.so_far in
     let renamed = so_far.renamed in
+    let last : List (List ℕ) = slice_index_or so_far.history splits [] in
     record {
       history = so_far.history;
       taken = so_far.taken;
       run = so_far.run;
+      complete = λ block inside.
+          let many : length last ≡ count = ap length so_far.last ∙ blocks_size so_far.numbers count in
+          let (u, hu, is) = renamed.used block (omega arith) in
+          let numbers_total = renamed.total in
+          let slot : ℕ = slice_index slots u in
+          let (k, lt, was) = taken.all slot (taken.below u (omega arith)) in
+          let same : members_of slots slot ≡ members_of so_far.numbers block = members_same slots so_far.numbers slot block renamed.total
+          (λ v hv e. renamed.apart v u hv (omega arith) (e ∙ sym is)) (λ v hv e. renamed.together v u hv (omega arith) e ∙ is) in (
+            k,
+            lt,
+            was ∙ same ∙ sym (block_at so_far.numbers count block (omega arith))
+                ∙ sym (ap (λ (blocks : List (List ℕ)). slice_index_or blocks block []) so_far.last),
+          );
       numbers = so_far.numbers;
       are = numbers_of_blocks graph.count count so_far.numbers (slice_index_or so_far.history splits []) (renamed.total ∙ total) renamed.below so_far.last;
       finer = λ u v hu hv same. renamed.together u v (omega arith) (omega arith) (numbering.apart u v (omega arith) (omega arith) same);

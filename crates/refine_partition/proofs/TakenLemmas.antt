@@ -1,7 +1,8 @@
--- None of the blocks that were taken waits again: what waits is a strict part of a block, or waited before.
-use Rattle.std.proofs.Common.{◌≡◌, ℕ, ◌+◌, ◌<◌, List, [], ◌∷◌, ◌++◌, length, All, Contains, sym, ◌∙◌, ap, subst, arith, inl, inr}
+-- None of the blocks that were taken waits again: what waits is a strict part of a block, or waited before. Each block
+-- that does not wait was taken, with the members that it has.
+use Rattle.std.proofs.Common.{◌≡◌, ℕ, ◌+◌, ◌-◌, ◌<◌, List, [], ◌∷◌, ◌++◌, length, All, Contains, sym, ◌∙◌, ap, subst, arith, inl, inr}
 use Rattle.std.specs.Prelude.{slice_index}
-use Rattle.std.proofs.lemmas.Bool.{cases_eq}
+use Rattle.std.proofs.lemmas.Bool.{cases_eq, cases_lt}
 use Rattle.std.proofs.lemmas.List.Elements.{All-contains, Contains-append_left, Contains-push}
 use Rattle.base_kit.specs.declared.act_graph.ActGraph.{ActGraph}
 use Rattle.base_kit.specs.Partition.{members_of}
@@ -12,7 +13,7 @@ use Rattle.refine_partition.specs.Pending.{HasEachOnce, ArePiecesWaiting, AreTak
 use Rattle.refine_partition.proofs.MemberLemmas.{IsMember, members_all, member}
 use Rattle.refine_partition.proofs.DivisionLemmas.{members_same}
 use Rattle.refine_partition.proofs.RunLemmas.{split_start, split_more}
-use Rattle.refine_partition.proofs.RefineLemmas.{distinct_last, left_known}
+use Rattle.refine_partition.proofs.RefineLemmas.{distinct_last, left_known, taken_or_left}
 
 is_member : (numbers : List ℕ) (block u : ℕ) → Contains (members_of numbers block) u → slice_index numbers u ≡ block
 is_member numbers block u found = (All-contains (IsMember numbers block) (members_of numbers block) u (members_all numbers block) found).is
@@ -72,8 +73,31 @@ past_turn graph taken numbers next origins left queue' past before after size us
           ];
     }
 
-pub once_start : (graph : ActGraph) (numbers queue : List ℕ) (count : ℕ) → IsStart graph numbers count → AreTakenOnce graph 0 numbers count queue
-once_start graph numbers queue count start = record { so_far = split_start graph numbers count start; past = λ k inside. absurd (omega arith) }
+-- a block that waits neither before a turn nor after it keeps its members
+same_block : (graph : ActGraph) (taken block : ℕ) (numbers next origins left queue' : List ℕ) (before after : ℕ) → length numbers ≡ graph.count →
+    AreParted graph taken numbers next before after origins → ArePiecesWaiting left queue' before origins → block < before → ¬ Contains queue' block →
+    members_of numbers block ≡ members_of next block
+same_block graph taken block numbers next origins left queue' before after size divided waiting low free =
+    let total = divided.total in
+    let grows = divided.size in
+    members_same numbers next block block (omega arith)
+    (λ u hu is. sym (divided.kept u (omega arith) (omega arith)) ∙ is)
+    (λ u hu is. elim (cases_lt (slice_index next u) before) [
+      | inl lt ↦ divided.kept u (omega arith) lt ∙ is
+      | inr le ↦
+          let below = divided.below u (omega arith) in
+          let from : slice_index origins (slice_index next u - before) ≡ slice_index numbers u =
+          divided.origin u (slice_index next u - before) (omega arith) (omega arith) in
+          absurd (free (subst (Contains queue') (from ∙ is) (waiting.divided (slice_index next u - before) (omega arith))))
+    ])
+
+pub once_start : (graph : ActGraph) (numbers queue : List ℕ) (count : ℕ) → IsStart graph numbers count →
+    ((block : ℕ) → block < count → Contains queue block) → AreTakenOnce graph 0 numbers count queue
+once_start graph numbers queue count start all = record {
+  so_far = split_start graph numbers count start;
+  past = λ k inside. absurd (omega arith);
+  done = λ block inside free. absurd (free (all block inside));
+}
 
 pub once_more : (graph : ActGraph) (splits taken : ℕ) (slots next origins queue left queue' : List ℕ) (before after : ℕ) →
     AreTakenOnce graph splits slots before queue → queue ≡ left ++ taken ∷ [] → HasEachOnce queue → All (λ block. block < before) queue →
@@ -97,5 +121,21 @@ once_more graph splits taken slots next origins queue left queue' before after o
               whole = was.whole;
               over = λ block found. was.over block (subst (λ (q : List ℕ). Contains q block) (sym popped) (Contains-append_left left (taken ∷ []) block found));
             }))
+      ];
+      done = λ block inside free. elim (cases_lt block before) [
+        | inl low ↦
+            let same = same_block graph taken block slots next origins left queue' before after size divided waiting low free in
+            elim (cases_eq block taken) [
+              | inl e ↦ (splits, omega arith, step.newest ∙ ap (members_of slots) (sym e) ∙ same)
+              | inr ne ↦
+                  let (k, lt, was) = once.done block low (λ found. elim (taken_or_left queue left taken popped block found) [
+                    | inl is ↦ ne is
+                    | inr there ↦ free (waiting.kept block there)
+                  ]) in
+                  (k, omega arith, step.earlier k lt ∙ was ∙ same)
+            ]
+        | inr high ↦
+            let grows = divided.size in
+            absurd (free (subst (Contains queue') (omega arith) (waiting.further (block - before) (omega arith))))
       ];
     }

@@ -3,7 +3,7 @@ use Rattle.std.specs.Prelude.{◌≡◌, ◌≢◌, ℕ, ◌+◌, ◌*◌, ◌<�
 use Rattle.base_kit.specs.declared.act_graph.ActGraph.{ActGraph}
 use Rattle.base_kit.specs.Partition.{color, members_of, IsAdmissibleOn, Refines}
 use Rattle.refine_partition.specs.Loose.{AreRenamed}
-use Rattle.refine_partition.specs.Runs.{taken_at, IsRun}
+use Rattle.refine_partition.specs.Runs.{taken_at, IsRun, IsTaken}
 use Rattle.refine_partition.specs.Splits.{ActAlike}
 use Rattle.refine_partition.specs.Splitting.{blocks_of}
 
@@ -76,7 +76,14 @@ pub record IsPast (numbers queue past : List ℕ) : Type 0 where
   pub whole : (u v : ℕ) → u < length numbers → v < length numbers → slice_index numbers u ≡ slice_index numbers v → Contains past u → Contains past v
   pub over : (block : ℕ) → Contains queue block → members_of numbers block ≢ past
 
--- between turns: no block that was taken waits
+-- between turns: no block that was taken waits, and each block that does not wait was taken
 pub record AreTakenOnce (graph : ActGraph) (splits : ℕ) (slots : List ℕ) (count : ℕ) (queue : List ℕ) : Type 0 where
   pub so_far : AreSplitSoFar graph splits slots count
   pub past : (k : ℕ) → k < splits → IsPast slots queue (taken_at so_far.history so_far.taken k)
+  pub done : (block : ℕ) → block < count → ¬ Contains queue block → IsTaken splits so_far.history so_far.taken (members_of slots block)
+
+-- after the last turn: each block was taken
+pub record AreAllTaken (graph : ActGraph) (splits : ℕ) (slots : List ℕ) (count : ℕ) : Type 0 where
+  pub so_far : AreSplitSoFar graph splits slots count
+  pub below : (u : ℕ) → u < graph.count → slice_index slots u < count
+  pub all : (block : ℕ) → block < count → IsTaken splits so_far.history so_far.taken (members_of slots block)

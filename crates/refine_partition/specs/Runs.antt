@@ -18,11 +18,18 @@ pub record IsRun (graph : ActGraph) (splits : ℕ) (history : List (List (List �
   -- no block, as its list of members, is taken twice
   pub fresh : (j k : ℕ) → j < k → k < splits → taken_at history taken j ≢ taken_at history taken k
 
--- the groups are the blocks to which so many splits lead from the start, each by another block
+-- one of the splits takes a block of these members
+abbrev pub IsTaken : ℕ → List (List (List ℕ)) → List ℕ → List ℕ → Type 0
+IsTaken splits history taken members = (k : ℕ) × (k < splits) × (taken_at history taken k ≡ members)
+
+-- The groups are the blocks to which so many splits lead from the start, each by another block. Each of
+-- these blocks was taken with the members that it has at the end.
 pub record AreReachedBy (graph : ActGraph) (splits : ℕ) (groups : List ℕ) : Type 0 where
   pub history : List (List (List ℕ))
   pub taken : List ℕ
   pub run : IsRun graph splits history taken
+  pub complete : (block : ℕ) → block < length (slice_index_or history splits []) →
+      IsTaken splits history taken (slice_index_or (slice_index_or history splits []) block [])
   pub numbers : List ℕ
   pub are : AreNumbersOf graph.count (slice_index_or history splits []) numbers
   pub finer : Refines graph.count groups numbers

@@ -77,7 +77,7 @@ fn from_numbers(alloc: Global, numbers: Vec<u32>, count: u32) -> Result<Partitio
 /// The coarsest admissible partition of a graph over borrowed edges, by its edges' exporters: every
 /// admissible one refines it. It counts its turns, at most two for each router. Its groups are the blocks
 /// to which as many splits lead from the start, each as `split_by` divides, number for number. No two of
-/// them take a block of the same members.
+/// them take a block of the same members, and each group is one that was taken.
 pub fn coarsest_by<L: Ledger>(
     alloc: Global,
     graph: &GraphView,
@@ -100,7 +100,7 @@ pub fn coarsest_by<L: Ledger>(
 /// The coarsest admissible partition of a graph over borrowed edges: every admissible one refines it. It
 /// counts its turns, at most two for each router. Its groups are the blocks to which as many splits lead
 /// from the start, each as `split_by` divides, number for number. No two of them take a block of the same
-/// members.
+/// members, and each group is one that was taken.
 pub fn coarsest_over<L: Ledger>(
     alloc: Global,
     graph: &GraphView,
@@ -116,7 +116,7 @@ pub fn coarsest_over<L: Ledger>(
 
 /// The coarsest admissible partition of a graph: every admissible one refines it. It counts its turns,
 /// at most two for each router. Its groups are the blocks to which as many calls of `split_by` lead from
-/// `start`, no two of which take a block of the same members.
+/// `start`, no two of which take a block of the same members, and each group is one that was taken.
 pub fn coarsest<L: Ledger>(
     alloc: Global,
     graph: &ActGraph,

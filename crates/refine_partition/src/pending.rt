@@ -3,7 +3,7 @@
 ghost use Rattle.std.specs.Prelude.{◌≡◌, ℕ, ◌<◌, ◌≤◌, ◌+◌, ◌*◌, ◌^◌, All, Contains, IfOk, OnOk, length, slice_index};
 ghost use Rattle.base_kit.specs.Partition.{IsCoarsestOn};
 ghost use Rattle.refine_partition.specs.Index.{IsImportIndex};
-ghost use Rattle.refine_partition.specs.Pending.{AreAllWaiting, AreMarked, IsWaiting, ArePiecesWaiting, AreSplitSoFar};
+ghost use Rattle.refine_partition.specs.Pending.{AreAllWaiting, AreMarked, IsWaiting, ArePiecesWaiting, AreAllTaken};
 
 use crate::graph_view::GraphView;
 use crate::imports::Import;
@@ -94,7 +94,7 @@ pub fn refined<L: Ledger>(
     requires one_list_each { length imports.now ≡ graph.now.count }
     requires index { IsImportIndex graph.now.edges imports.now }
     ensures coarsest { IfOk result (λ numbers. IsCoarsestOn graph.now numbers.items) }
-    ensures splits { IfOk result (λ numbers. (splits count : ℕ) × (turns.new ≡ turns.old + splits) × AreSplitSoFar graph.now splits numbers.items count) }
+    ensures splits { IfOk result (λ numbers. (splits count : ℕ) × (turns.new ≡ turns.old + splits) × AreAllTaken graph.now splits numbers.items count) }
     ensures turns { turns.new ≤ turns.old + 2 * graph.now.count }
     ensures below { IfOk result (λ numbers. All (λ number. number < length numbers.items) numbers.items) }
 {

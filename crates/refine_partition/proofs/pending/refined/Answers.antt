@@ -1,4 +1,4 @@
-use Rattle.std.proofs.Common.{rules, ◌≡◌, [], ◌∷◌, ◌++◌, ◌+◌, false, slice_set, length, ◌<◌, subst, ap, ◌∙◌, arith}
+use Rattle.std.proofs.Common.{rules, ℕ, List, Contains, ◌≡◌, [], ◌∷◌, ◌++◌, ◌+◌, false, slice_set, length, ◌<◌, subst, ap, ◌∙◌, arith}
 use Rattle.std.proofs.lemmas.List.{length_push}
 use Rattle.std.proofs.lemmas.List.Elements.{All-from_get_or}
 use Rattle.std.proofs.Math.ListN.{length-set}
@@ -19,7 +19,7 @@ loop-block-init g c =
       refining = refining_start _ _ _ _ start all.all all.known;
       size = all.size;
       marked = marked_all _ _ _ all;
-      splits = (0, omega arith, once_start _ _ _ _ start);
+      splits = (0, omega arith, once_start _ _ _ _ start all.all);
       bound = omega arith;
     }
 
@@ -71,7 +71,19 @@ returns-clause-coarsest g c =
     c.loop-block.invariant.refining)
 
 pub returns-clause-splits : goal.returns-clause-splits
-returns-clause-splits g c = let (splits, turns, once) = c.loop-block.invariant.splits in (splits, length c.loop-block.blocks.lists.items, turns, once.so_far)
+returns-clause-splits g c =
+    let none : c.loop-block.queue.items ≡ [] = search rules in
+    let (splits, turns, once) = c.loop-block.invariant.splits in (
+      splits,
+      length c.loop-block.blocks.lists.items,
+      turns,
+      record {
+        so_far = once.so_far;
+        below = c.loop-block.invariant.refining.below;
+        all = λ block inside. once.done block inside (λ found.
+            let (j, within, at) = subst (λ (queue : List ℕ). Contains queue block) none found in absurd (omega arith));
+      },
+    )
 
 pub returns-clause-below : goal.returns-clause-below
 returns-clause-below g c =

@@ -2,7 +2,7 @@ use Rattle.std.proofs.Common.{◌≡◌, ◌++◌, drop}
 use Rattle.std.specs.Prelude.{filter_map}
 use Rattle.abstract_net.specs.GroupSteps.{step_at, first_kinds, first_steps}
 use Rattle.abstract_net.specs.Met.{is_met, AreMet}
-use Rattle.abstract_net.proofs.steps.first_steps.Given as goal
+use Rattle.abstract_net.proofs.steps.first_steps_of_all.Given as goal
 
 abbrev pub invariant-loop-place : goal.invariant-loop-place
 invariant-loop-place l = record {
