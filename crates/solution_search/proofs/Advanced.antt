@@ -57,7 +57,7 @@ module _ (P : Problem) (tied : Bool) (s : State) (known : IsState P tied s) wher
       waits = known.knows.waits;
       bests = known.knows.bests;
       unsettled = known.knows.unsettled;
-      settled = λ u r e. holds_by P tied tied' (IsCandidate P s.labels u) (IsCandidate P s.labels u) (best_at s.bests u) r (λ c m. m) (λ c m. m) kept
+      settled = λ u r e. holds_by P tied tied' (IsCandidate P s.labels u) (IsCandidate P s.labels u) r (λ c m. m) (λ c m. m) kept
           (known.knows.settled u r e);
     };
   }

@@ -183,7 +183,7 @@ knows_replaced P IsMet best offer rank.Worse q fresh m = knows_one P (More IsMet
 
 -- the best offer of a router without a label, once there is one more
 pub knows_more : (P : Problem) (IsMet : Route → Type 0) (known : Option Best) (offer : Best) → IsFresh P offer → KnowsBest P IsMet known →
-    KnowsBest P (More IsMet offer.route) (after_put known (better_than known false offer))
+    KnowsBest P (More IsMet offer.route) (after_put known (better_than None known offer))
 knows_more P IsMet None offer fresh k = knows_one P (More IsMet offer.route) offer (record {
   held = inr refl;
   lone = fresh.lone;
@@ -200,15 +200,11 @@ knows_more P IsMet (Some best) offer fresh k =
 -- ---- a settled router
 
 -- the label of a settled router stays best, if the rank of a further candidate does not beat it
-pub holds_more : (P : Problem) (tied tied' : Bool) (IsMet : Route → Type 0) (known : Option Best) (route other : Route) → HoldsBest P tied IsMet known route →
+pub holds_more : (P : Problem) (tied tied' : Bool) (IsMet : Route → Type 0) (route other : Route) → HoldsBest P tied IsMet route →
     (tied' ≡ false → tied ≡ false) → compare_keys (key_of P other) (key_of P route) ≢ Less →
     (tied' ≡ false → compare_weak (key_of P other) (key_of P route) ≡ Equal → key_of P other ≡ key_of P route) →
-    HoldsBest P tied' (More IsMet other) known route
-holds_more P tied tied' IsMet known route other h kept not same = record {
-  best = h.best;
-  is_known = h.is_known;
-  is_route = h.is_route;
-  lone = h.lone;
+    HoldsBest P tied' (More IsMet other) route
+holds_more P tied tied' IsMet route other h kept not same = record {
   held = inl h.held;
   unbeaten = λ c m. elim m [
     | inl old ↦ h.unbeaten c old
@@ -232,13 +228,9 @@ knows_by P A B known there back k = record {
   });
 }
 
-pub holds_by : (P : Problem) (tied tied' : Bool) (A B : Route → Type 0) (known : Option Best) (route : Route) → ((c : Route) → A c → B c) → ((c : Route) → B c → A c) →
-    (tied' ≡ false → tied ≡ false) → HoldsBest P tied A known route → HoldsBest P tied' B known route
-holds_by P tied tied' A B known route there back kept h = record {
-  best = h.best;
-  is_known = h.is_known;
-  is_route = h.is_route;
-  lone = h.lone;
+pub holds_by : (P : Problem) (tied tied' : Bool) (A B : Route → Type 0) (route : Route) → ((c : Route) → A c → B c) → ((c : Route) → B c → A c) →
+    (tied' ≡ false → tied ≡ false) → HoldsBest P tied A route → HoldsBest P tied' B route
+holds_by P tied tied' A B route there back kept h = record {
   held = there route h.held;
   unbeaten = λ c m. h.unbeaten c (back c m);
   same = λ untied c m. h.same (kept untied) c (back c m);

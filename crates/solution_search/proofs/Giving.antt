@@ -1,6 +1,6 @@
 -- What a settled router gives the others, edge by edge, and what the board knows then.
 use Rattle.std.proofs.Common.{◌≡◌, ℕ, ◌<◌, false, List, [], ◌∷◌, ◌++◌, length, Option, Some, None, refl, sym, ap, ◌∙◌, subst, arith}
-use Rattle.std.specs.Prelude.{Contains, filter_map, is_some, slice_index_or}
+use Rattle.std.specs.Prelude.{Contains, filter_map, slice_index_or}
 use Rattle.std.specs.Ordering.{nat_cmp}
 use Rattle.std.specs.Cmp.Lexicographic.{slice_cmp}
 use Rattle.std.specs.declared.cmp.Ordering.{Ordering}
@@ -20,12 +20,12 @@ use Rattle.solution_search.specs.declared.bests.Rank.TheVariants as Rank
 use Rattle.solution_search.specs.declared.board.Board.{Board}
 use Rattle.solution_search.specs.declared.settling.Outcome.{Outcome}
 use Rattle.solution_search.specs.declared.settling.Outcome.TheVariants.{Fine, Upset}
-use Rattle.solution_search.specs.Bests.{rank_by, rank_of}
+use Rattle.solution_search.specs.Bests.{fresh_of, rank_by, rank_of}
 use Rattle.solution_search.specs.Boards.{state_of, best_at, is_tied, IsTieWithin, Fits, GoesOn, better_than, rank_at, Adds, Takes, edge_of, IsPart}
 use Rattle.solution_search.specs.Offers.{IsOfferOf, OffersRoute}
 use Rattle.solution_search.specs.Settled.{PartComesTo, HasGiven, HasSpread, HasSettled}
 use Rattle.solution_search.specs.Weighing.{AreWorse}
-use Rattle.solution_search.proofs.Adding.{adds_worse}
+use Rattle.solution_search.proofs.Adding.{adds_worse, beaten_by_label}
 use Rattle.solution_search.proofs.Known.{added_tied}
 use Rattle.solution_search.proofs.Pending.{goes_same, goes_trans, put_goes, put_fits, rank_within, taken_goes}
 use Rattle.solution_search.proofs.Spreading.{import_is, part_nothing, part_offer, part_upset, part_done, taken_part, taken_tied}
@@ -83,20 +83,20 @@ module _ (P : Problem) (good : IsProblem P) where
   }
 
   pub given_offer : (old new : Board) (router : ℕ) (i : Import) (offer : Best) (outcome : Outcome) (route : Route) → Fits (count P) old → i.importer < count P →
-      over P old.labels (edge_of router i) ≡ Some route → IsOfferOf P route offer → Adds old new i.importer offer outcome → HasGiven P old new router i outcome
+      over P old.labels (edge_of router i) ≡ Some route → IsOfferOf P route offer → Adds P old new i.importer offer outcome → HasGiven P old new router i outcome
   given_offer old new router i offer outcome route fits inside gives is_offer adds = record {
     goes = put_goes old new i.importer put within adds.labels adds.waits adds.put;
     fits = put_fits (count P) old new i.importer put fits inside adds.labels adds.waits adds.put
         (subst (IsTieWithin (count P)) (sym adds.tie)
-        (rank_within (count P) old.tie i.importer (rank_at (best_at old.bests.items i.importer) (is_some (label old.labels i.importer)) offer) fits.tie inside));
+        (rank_within (count P) old.tie i.importer (rank_at P (label old.labels i.importer) offer) fits.tie inside));
     labels = adds.labels;
     waits = adds.waits;
-    tied = added_tied old new i.importer offer outcome adds;
+    tied = added_tied P old new i.importer offer outcome adds;
     comes = λ before done edge at is part. by outcome refl before done edge at is part;
   }
     where
       put : Option Best
-      put = better_than (best_at old.bests.items i.importer) (is_some (label old.labels i.importer)) offer
+      put = better_than (label old.labels i.importer) (best_at old.bests.items i.importer) offer
 
       within : i.importer < length old.bests.items
       within = let b = fits.bests in omega (arith, b, inside)
@@ -108,11 +108,11 @@ module _ (P : Problem) (good : IsProblem P) where
       by Upset e before done edge at is part =
           part_upset P good before router done i old new offer outcome route gives is_offer inside adds part edge at is e
 
-  -- each route that the edge may give is worse than the best offer of the importer, and the board is as it was
-  pub given_worse : (board : Board) (router : ℕ) (i : Import) (from : Route) (best : Best) → Fits (count P) board → i.importer < count P →
-      label board.labels router ≡ Some from → best_at board.bests.items i.importer ≡ Some best → AreWorse (slice_index_or P.acts i.act (Cost 0)) from best.route →
-      HasGiven P board board router i Fine
-  given_worse board router i from best fits inside labelled known worse = by (over P board.labels (edge_of router i)) refl
+  -- each route that the edge may give is worse than some other one, and such an offer changes nothing
+  given_worse : (board : Board) (router : ℕ) (i : Import) (from : Route) (best : Best) → Fits (count P) board → i.importer < count P →
+      label board.labels router ≡ Some from → AreWorse (slice_index_or P.acts i.act (Cost 0)) from best.route →
+      ((offer : Best) → rank_of offer best ≡ Rank.Worse → Adds P board board i.importer offer Fine) → HasGiven P board board router i Fine
+  given_worse board router i from best fits inside labelled worse adds = by (over P board.labels (edge_of router i)) refl
     where
       by : (o : Option Route) → over P board.labels (edge_of router i) ≡ o → HasGiven P board board router i Fine
       by None e = given_nothing board router i fits e
@@ -125,7 +125,21 @@ module _ (P : Problem) (good : IsProblem P) where
           let rank : rank_of offer best ≡ Rank.Worse =
           ap (λ (o : Ordering). rank_by o (slice_cmp nat_cmp (comms_of route) (comms_of best.route)) (slice_cmp nat_cmp offer.lone best.lone)) weak in
           given_offer board board router i offer Fine route fits inside e (record { same = refl; fresh = record { lone = refl; untied = refl } })
-          (adds_worse board i.importer offer best known rank)
+          (adds offer rank)
+
+  -- it is worse than the best offer of the importer
+  pub beaten_by_best : (board : Board) (router : ℕ) (i : Import) (from : Route) (best : Best) → Fits (count P) board → i.importer < count P →
+      label board.labels router ≡ Some from → label board.labels i.importer ≡ None → best_at board.bests.items i.importer ≡ Some best →
+      AreWorse (slice_index_or P.acts i.act (Cost 0)) from best.route → HasGiven P board board router i Fine
+  beaten_by_best board router i from best fits inside labelled unsettled known worse = given_worse board router i from best fits inside labelled worse
+      (λ offer. adds_worse P board i.importer offer unsettled best known)
+
+  -- it is worse than the label of the importer
+  pub beaten_by_own : (board : Board) (router : ℕ) (i : Import) (from own : Route) → Fits (count P) board → i.importer < count P →
+      label board.labels router ≡ Some from → label board.labels i.importer ≡ Some own → AreWorse (slice_index_or P.acts i.act (Cost 0)) from own →
+      HasGiven P board board router i Fine
+  beaten_by_own board router i from own fits inside labelled settled worse = given_worse board router i from (fresh_of P own) fits inside labelled worse
+      (λ offer. beaten_by_label P board i.importer offer own settled)
 
   pub spread_none : (board : Board) (router : ℕ) → Fits (count P) board → Spread P board board router []
   spread_none board router fits = record {
@@ -174,7 +188,7 @@ module _ (P : Problem) (good : IsProblem P) where
   pub settled : (old mid new : Board) (router : ℕ) (best : Best) (outcome : Outcome) → Fits (count P) old → router < count P → best_at old.bests.items router ≡ Some best →
       label old.labels router ≡ None → Takes old mid router best → HasSpread P mid new router outcome → HasSettled P old new router best outcome
   settled old mid new router best outcome fits inside e empty t s = record {
-    goes = goes_trans old mid new (taken_goes old mid router best (let l = fits.labels in omega (arith, l, inside)) empty t) s.goes;
+    goes = goes_trans old mid new (taken_goes old mid router best (let l = fits.labels in omega (arith, l, inside)) e empty t) s.goes;
     fits = s.fits;
     labels = s.labels ∙ t.labels;
     waits = s.waits ∙ t.waits;

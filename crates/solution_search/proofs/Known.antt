@@ -5,8 +5,8 @@ use Rattle.std.specs.declared.cmp.Ordering.TheVariants.{Less, Equal}
 use Rattle.std.proofs.lemmas.List.{length-set, get_or-set_same, get_or-set_other}
 use Rattle.std.proofs.lemmas.Bool.{cases_eq}
 use Rattle.srp_core.specs.declared.route.Route.{Route}
-use Rattle.srp_core.specs.Routes.{compare_keys, chosen, path_of}
-use Rattle.srp_core.specs.Problem.{Problem, count, is_lone_number, key_of}
+use Rattle.srp_core.specs.Routes.{compare_keys}
+use Rattle.srp_core.specs.Problem.{Problem, count, key_of}
 use Rattle.srp_core.specs.Stability.{label, AreLabels, IsCandidate}
 use Rattle.srp_core.specs.Weak.{compare_weak}
 use Rattle.srp_core.proofs.Offers.{cases_label}
@@ -19,7 +19,7 @@ use Rattle.solution_search.specs.declared.board.Board.{Board}
 use Rattle.solution_search.specs.declared.board.Tie.{Tie}
 use Rattle.solution_search.specs.declared.settling.Outcome.{Outcome}
 use Rattle.solution_search.specs.declared.settling.Outcome.TheVariants.{Fine, Upset}
-use Rattle.solution_search.specs.Bests.{rank_of, told, IsFresh, KnowsBest, HoldsBest}
+use Rattle.solution_search.specs.Bests.{fresh_of, told, IsFresh, KnowsBest, HoldsBest}
 use Rattle.solution_search.specs.Boards.{state_of, best_at, is_tied, Puts, better_than, rank_at, outcome_of, noted_tie, noted_by, Adds, Knows}
 use Rattle.solution_search.specs.Cases.{IsBeaten}
 use Rattle.solution_search.proofs.WeakOrder.{weak_better}
@@ -58,8 +58,9 @@ noted_stays tie w rank.Worse e = e
 noted_stays tie w (rank.TiedBetter by) e = let noted = tie_is_noted tie w by in absurd (cc)
 noted_stays tie w (rank.TiedWorse by) e = let noted = tie_is_noted tie w by in absurd (cc)
 
-pub added_tied : (old new : Board) (w : ℕ) (offer : Best) (outcome : Outcome) → Adds old new w offer outcome → is_tied new ≡ false → is_tied old ≡ false
-added_tied old new w offer outcome a e = noted_stays old.tie w (rank_at (best_at old.bests.items w) (is_some (label old.labels w)) offer)
+pub added_tied : (P : Problem) (old new : Board) (w : ℕ) (offer : Best) (outcome : Outcome) → Adds P old new w offer outcome → is_tied new ≡ false →
+    is_tied old ≡ false
+added_tied P old new w offer outcome a e = noted_stays old.tie w (rank_at P (label old.labels w) offer)
     (ap (λ (t : Option Tie). is_some t) (sym a.tie) ∙ e)
 
 -- what a rank says of a settled router's label
@@ -97,32 +98,16 @@ falls_by P tie w other route rank.Equal m upset = absurd (cc)
 falls_by P tie w other route rank.Worse m upset = absurd (cc)
 falls_by P tie w other route (rank.TiedWorse by) m upset = absurd (cc)
 
-label_some : (o : Option Route) (r : Route) → o ≡ Some r → is_some o ≡ true
-label_some o r e = ap (λ (x : Option Route). is_some x) e
-
-label_none : (o : Option Route) → o ≡ None → is_some o ≡ false
-label_none o e = ap (λ (x : Option Route). is_some x) e
-
 module _ (P : Problem) (IsMet : ℕ → Route → Type 0) (old new : Board) (router : ℕ) (offer : Best) (outcome : Outcome)
-    (knows : Knows P (is_tied old) IsMet (state_of old)) (inside : router < count P) (fresh : IsFresh P offer) (adds : Adds old new router offer outcome) where
+    (knows : Knows P (is_tied old) IsMet (state_of old)) (inside : router < count P) (fresh : IsFresh P offer) (adds : Adds P old new router offer outcome) where
   -- the router is settled: how the offer compares with its label
-  settled_rank : (r : Route) → label old.labels router ≡ Some r → (best : Best) → best_at old.bests.items router ≡ Some best →
-      rank_at (best_at old.bests.items router) (is_some (label old.labels router)) offer ≡ rank_of offer best
-  settled_rank r e best f = ap (λ (o : Option Best). rank_at o (is_some (label old.labels router)) offer) f
-      ∙ ap (λ (b : Bool). rank_at (Some best) b offer) (label_some (label old.labels router) r e)
-
-  settled_means : (r : Route) (e : label old.labels router ≡ Some r) →
-      Means (key_of P offer.route) (key_of P r) (rank_at (best_at old.bests.items router) (is_some (label old.labels router)) offer)
-  settled_means r e =
-      let h = knows.settled router r e in
-      let lone = subst (λ (x : Route). h.best.lone ≡ chosen (is_lone_number P) (path_of x))
-      (sym h.is_route) h.lone in
-      subst (λ (x : Rank). Means (key_of P offer.route) (key_of P r) x) (sym (settled_rank r e h.best h.is_known))
-      (subst (λ (x : Route). Means (key_of P offer.route) (key_of P x) (rank_of offer h.best)) h.is_route (means P offer h.best fresh.lone lone))
+  settled_means : (r : Route) → label old.labels router ≡ Some r → Means (key_of P offer.route) (key_of P r) (rank_at P (label old.labels router) offer)
+  settled_means r e = subst (λ (o : Option Route). Means (key_of P offer.route) (key_of P r) (rank_at P o offer)) (sym e)
+      (means P offer (fresh_of P r) fresh.lone refl)
 
   pub added_beaten : outcome ≡ Upset → (r : Route) → label old.labels router ≡ Some r → IsCandidate P new.labels router offer.route → IsBeaten P (is_tied new) new.labels
   added_beaten upset r e candidate =
-      let rank = rank_at (best_at old.bests.items router) (is_some (label old.labels router)) offer in
+      let rank = rank_at P (label old.labels router) offer in
       let f = falls_by P old.tie router offer.route r rank (settled_means r e) (sym adds.is_outcome ∙ upset) in
       record {
         router = router;
@@ -139,14 +124,9 @@ module _ (P : Problem) (IsMet : ℕ → Route → Type 0) (old new : Board) (rou
   upset_labelled upset = elim (cases_label (label old.labels router)) [
     | inr some ↦ some
     | inl none ↦
-        let e = label_none (label old.labels router) none in
-        absurd (no_rank (best_at old.bests.items router) (subst (λ (b : Bool). outcome_of (rank_at (best_at old.bests.items router) b offer) ≡ Upset) e
-        (sym adds.is_outcome ∙ upset)))
+        let fine : Fine ≡ Upset = ap (λ (o : Option Route). outcome_of (rank_at P o offer)) (sym none) ∙ sym adds.is_outcome ∙ upset in
+        absurd (cc)
   ]
-    where
-      no_rank : (o : Option Best) → outcome_of (rank_at o false offer) ≡ Upset → ⊥
-      no_rank None f = absurd (cc)
-      no_rank (Some best) f = absurd (cc)
 
   pub added_knows : outcome ≡ Fine → Knows P (is_tied new) (MoreAt IsMet router offer.route) (state_of new)
   added_knows fine = record {
@@ -158,13 +138,13 @@ module _ (P : Problem) (IsMet : ℕ → Route → Type 0) (old new : Board) (rou
   }
     where
       put : Option Best
-      put = better_than (best_at old.bests.items router) (is_some (label old.labels router)) offer
+      put = better_than (label old.labels router) (best_at old.bests.items router) offer
 
       within : router < length old.bests.items
       within = let b = knows.bests in omega (arith, b, inside)
 
       kept : is_tied new ≡ false → is_tied old ≡ false
-      kept = added_tied old new router offer outcome adds
+      kept = added_tied P old new router offer outcome adds
 
       elsewhere : (u : ℕ) → u ≢ router → (c : Route) → MoreAt IsMet router offer.route u c → IsMet u c
       elsewhere u differ c (inl met) = met
@@ -187,37 +167,25 @@ module _ (P : Problem) (IsMet : ℕ → Route → Type 0) (old new : Board) (rou
             let f : label old.labels router ≡ None = subst (λ (v : ℕ). label old.labels v ≡ None) same e in
             subst (λ (v : ℕ). KnowsBest P (MoreAt IsMet router offer.route v) (best_at new.bests.items v)) (sym same)
             (subst (KnowsBest P (MoreAt IsMet router offer.route router)) (sym (best_same old new router put within adds.put))
-            (subst (λ (b : Bool). KnowsBest P (MoreAt IsMet router offer.route router)
-            (after_put (best_at old.bests.items router) (better_than (best_at old.bests.items router) b offer)))
-            (sym (label_none (label old.labels router) f))
+            (subst (λ (l : Option Route). KnowsBest P (MoreAt IsMet router offer.route router)
+            (after_put (best_at old.bests.items router) (better_than l (best_at old.bests.items router) offer)))
+            (sym f)
             (knows_by P (More (IsMet router) offer.route) (MoreAt IsMet router offer.route router)
-            (after_put (best_at old.bests.items router) (better_than (best_at old.bests.items router) false offer)) here_more more_here
+            (after_put (best_at old.bests.items router) (better_than None (best_at old.bests.items router) offer)) here_more more_here
             (knows_more P (IsMet router) (best_at old.bests.items router) offer fresh (knows.unsettled router inside f)))))
       ]
 
-      -- a settled router keeps the best offer that it took
-      kept_best : (r : Route) → label old.labels router ≡ Some r → best_at new.bests.items router ≡ best_at old.bests.items router
-      kept_best r e =
-          let h = knows.settled router r e in
-          best_same old new router put within adds.put
-          ∙ ap (λ (b : Bool). after_put (best_at old.bests.items router) (better_than (best_at old.bests.items router) b offer))
-          (label_some (label old.labels router) r e)
-          ∙ ap (λ (o : Option Best). after_put o (better_than o true offer)) h.is_known ∙ sym h.is_known
-
-      closed : (u : ℕ) (r : Route) → label old.labels u ≡ Some r → HoldsBest P (is_tied new) (MoreAt IsMet router offer.route u) (best_at new.bests.items u) r
+      closed : (u : ℕ) (r : Route) → label old.labels u ≡ Some r → HoldsBest P (is_tied new) (MoreAt IsMet router offer.route u) r
       closed u r e = elim (cases_eq u router) [
         | inr differ ↦
-            subst (λ (o : Option Best). HoldsBest P (is_tied new) (MoreAt IsMet router offer.route u) o r) (sym (best_other old new router u put differ adds.put))
-            (holds_by P (is_tied old) (is_tied new) (IsMet u) (MoreAt IsMet router offer.route u) (best_at old.bests.items u) r (λ c m. inl m)
-            (elsewhere u differ) kept (knows.settled u r e))
+            holds_by P (is_tied old) (is_tied new) (IsMet u) (MoreAt IsMet router offer.route u) r (λ c m. inl m) (elsewhere u differ) kept (knows.settled u r e)
         | inl same ↦
             let f : label old.labels router ≡ Some r = subst (λ (v : ℕ). label old.labels v ≡ Some r) same e in
-            let rank = rank_at (best_at old.bests.items router) (is_some (label old.labels router)) offer in
+            let rank = rank_at P (label old.labels router) offer in
             let s = stands_by P old.tie router offer.route r rank (settled_means r f) (sym adds.is_outcome ∙ fine) in
-            subst (λ (v : ℕ). HoldsBest P (is_tied new) (MoreAt IsMet router offer.route v) (best_at new.bests.items v) r) (sym same)
-            (subst (λ (o : Option Best). HoldsBest P (is_tied new) (MoreAt IsMet router offer.route router) o r) (sym (kept_best r f))
-            (holds_by P (is_tied new) (is_tied new) (More (IsMet router) offer.route) (MoreAt IsMet router offer.route router) (best_at old.bests.items router) r
+            subst (λ (v : ℕ). HoldsBest P (is_tied new) (MoreAt IsMet router offer.route v) r) (sym same)
+            (holds_by P (is_tied new) (is_tied new) (More (IsMet router) offer.route) (MoreAt IsMet router offer.route router) r
             here_more more_here (λ x. x)
-            (holds_more P (is_tied old) (is_tied new) (IsMet router) (best_at old.bests.items router) r offer.route (knows.settled router r f) kept s.not
-            (λ untied. s.same (ap (λ (t : Option Tie). is_some t) (sym adds.tie) ∙ untied)))))
+            (holds_more P (is_tied old) (is_tied new) (IsMet router) r offer.route (knows.settled router r f) kept s.not
+            (λ untied. s.same (ap (λ (t : Option Tie). is_some t) (sym adds.tie) ∙ untied))))
       ]

@@ -1,7 +1,10 @@
 -- Changes are undone, and what they put off.
-use Rattle.std.proofs.Common.{◌≡◌, ℕ, zero, suc, ◌<◌, All, List, [], ◌∷◌, ◌++◌, length, set, Option, Some, None, refl, sym, ap, ◌∙◌, subst, arith, append-nil, append_assoc}
+use Rattle.std.proofs.Common.{◌≡◌, ℕ, zero, suc, ◌<◌, All, List, [], ◌∷◌, ◌++◌, length, set, Option, Some, None, refl, sym, ap, ◌∙◌, subst, inl, inr, arith, append-nil, append_assoc}
 use Rattle.std.specs.Prelude.{Bool, true, false, slice_index_or, if◌then◌else◌}
 use Rattle.std.proofs.Math.ListN.{length-set}
+use Rattle.std.specs.List.{list_any}
+use Rattle.std.proofs.lemmas.Bool.{cases_lt}
+use Rattle.std.proofs.lemmas.List.{get_or_past, get_or-set_same}
 use Rattle.std.proofs.lemmas.List.Elements.{All-pop, All-push}
 use Rattle.srp_core.specs.declared.route.Route.{Route}
 use Rattle.srp_core.specs.Stability.{label}
@@ -15,7 +18,7 @@ use Rattle.solution_search.specs.declared.board.Change.TheVariants.{Settled, Wai
 use Rattle.solution_search.specs.declared.board.Tie.{Tie}
 use Rattle.solution_search.specs.declared.board.Wait.{Wait}
 use Rattle.solution_search.specs.Bests.{told}
-use Rattle.solution_search.specs.Boards.{State, state_of, best_at, undo, undo_all, waits_for, put_off, pending, pending_of, GoesOn, IsWithin, IsTieWithin, Fits, noted_tie, noted_by, noted_at_take, SameButWaits, Puts, Takes}
+use Rattle.solution_search.specs.Boards.{State, state_of, best_at, offer_back, is_fork, undo, undo_all, waits_for, put_off, pending, pending_of, GoesOn, IsWithin, IsTieWithin, Fits, noted_tie, noted_by, noted_at_take, SameButWaits, Puts, Takes}
 
 undo_append : (xs ys : List Change) (s : State) → undo_all (xs ++ ys) s ≡ undo_all xs (undo_all ys s)
 undo_append [] ys s = refl
@@ -30,6 +33,14 @@ pending_append (x ∷ xs) ys s = ap (λ (l : List State). l ++ put_off x (undo_a
 -- what the last change put off comes first
 pub pending_last : (xs : List Change) (x : Change) (s : State) → pending (xs ++ x ∷ []) s ≡ put_off x s ++ pending xs (undo x s)
 pending_last xs x s = pending_append xs (x ∷ []) s
+
+-- where there is no fork, nothing is put off
+pub none_pending : (changes : List Change) (s : State) → list_any is_fork changes ≡ false → pending changes s ≡ []
+none_pending [] s e = refl
+none_pending (Settled u lone tied ∷ changes) s e = ap (λ (l : List State). l ++ []) (none_pending changes s e)
+none_pending (Waits u before ∷ changes) s e = ap (λ (l : List State). l ++ []) (none_pending changes s e)
+none_pending (Offered u before ∷ changes) s e = ap (λ (l : List State). l ++ []) (none_pending changes s e)
+none_pending (Fork wait ∷ changes) s e = absurd (cc)
 
 pub same_state : (s t : State) → s.labels ≡ t.labels → s.waits ≡ t.waits → s.bests ≡ t.bests → s ≡ t
 same_state s t p q r = λ i. record { labels = p i; waits = q i; bests = r i }
@@ -70,12 +81,31 @@ put_goes old new u (Some b) h l w put = goes_one old new (Offered u (best_at old
     (same_state (undo (Offered u (best_at old.bests.items u)) (state_of new)) (state_of old) l w
     (ap (λ (x : List (Option Best)). set x u (best_at old.bests.items u)) put.0 ∙ set_back old.bests.items u (Some b) None h)) refl
 
-pub taken_goes : (old new : Board) (u : ℕ) (b : Best) → u < length old.labels → label old.labels u ≡ None → Takes old new u b → GoesOn old new
-taken_goes old new u b h e t = goes_one old new (Settled u) t.changes
-    (same_state (undo (Settled u) (state_of new)) (state_of old)
+some_inside : (bests : List (Option Best)) (u : ℕ) (b : Best) → best_at bests u ≡ Some b → u < length bests
+some_inside bests u b known = elim (cases_lt u (length bests)) [
+  | inl h ↦ h
+  | inr h ↦ (let none : best_at bests u ≡ None = get_or_past bests u None h in absurd (cc))
+]
+
+pub taken_goes : (old new : Board) (u : ℕ) (b : Best) → u < length old.labels → best_at old.bests.items u ≡ Some b → label old.labels u ≡ None →
+    Takes old new u b → GoesOn old new
+taken_goes old new u b h known e t = goes_one old new (Settled u b.lone b.tied) t.changes
+    (same_state (undo (Settled u b.lone b.tied) (state_of new)) (state_of old)
     (ap (λ (l : List (Option Route)). set l u None) t.labels
     ∙ subst (λ (o : Option Route). set (set old.labels u (Some b.route)) u o ≡ old.labels) e (set_back old.labels u (Some b.route) None h))
-    t.waits t.bests) refl
+    t.waits
+    (ap (λ (x : List (Option Best)). set x u (offer_back (label new.labels u) b.lone b.tied)) t.bests
+    ∙ ap (λ (o : Option Best). set (set old.bests.items u None) u o) back
+    ∙ set_back old.bests.items u None None within)) refl
+  where
+    within : u < length old.bests.items
+    within = some_inside old.bests.items u b known
+
+    labelled : label new.labels u ≡ Some b.route
+    labelled = ap (λ (l : List (Option Route)). label l u) t.labels ∙ get_or-set_same old.labels u (Some b.route) None h
+
+    back : offer_back (label new.labels u) b.lone b.tied ≡ best_at old.bests.items u
+    back = ap (λ (o : Option Route). offer_back o b.lone b.tied) labelled ∙ sym known
 
 -- ---- fitting
 
@@ -120,8 +150,8 @@ pub taken_fits : (n : ℕ) (old new : Board) (u : ℕ) (b : Best) → Fits n old
 taken_fits n old new u b f h t = record {
   labels = ap (λ (x : List (Option Route)). length x) t.labels ∙ length-set old.labels u (Some b.route) ∙ f.labels;
   waits = ap (λ (x : List (Option ℕ)). length x) t.waits ∙ f.waits;
-  bests = ap (λ (x : List (Option Best)). length x) t.bests ∙ f.bests;
-  changes = subst (All (IsWithin n)) (sym t.changes) (All-push (IsWithin n) old.changes.items (Settled u) f.changes h);
+  bests = ap (λ (x : List (Option Best)). length x) t.bests ∙ length-set old.bests.items u None ∙ f.bests;
+  changes = subst (All (IsWithin n)) (sym t.changes) (All-push (IsWithin n) old.changes.items (Settled u b.lone b.tied) f.changes h);
   tie = subst (IsTieWithin n) (sym t.tie) (taken_within n old.tie u b.tied f.tie h);
 }
 
@@ -129,10 +159,10 @@ taken_fits n old new u b f h t = record {
 
 undone_lengths : (n : ℕ) (change : Change) (s t : State) → t ≡ undo change s → length s.labels ≡ n → length s.waits ≡ n → length s.bests ≡ n →
     (length t.labels ≡ n) × (length t.waits ≡ n) × (length t.bests ≡ n)
-undone_lengths n (Settled u) s t e l w b = (
+undone_lengths n (Settled u lone tied) s t e l w b = (
   ap (λ (x : State). length x.labels) e ∙ length-set s.labels u None ∙ l,
   ap (λ (x : State). length x.waits) e ∙ w,
-  ap (λ (x : State). length x.bests) e ∙ b,
+  ap (λ (x : State). length x.bests) e ∙ length-set s.bests u (offer_back (label s.labels u) lone tied) ∙ b,
 )
 undone_lengths n (Waits u before) s t e l w b = (
   ap (λ (x : State). length x.labels) e ∙ l,
@@ -172,7 +202,7 @@ popped_fork old new changes change wait e u c f = popped old new changes change 
     ∙ ap (λ (s : State). waits_for wait s ∷ pending_of new) (sym (u ∙ ap (λ (x : Change). undo x (state_of old)) f))
 
 none_put_off : (change : Change) (s t : State) → put_off change s ≡ [] → put_off change t ≡ []
-none_put_off (Settled u) s t e = refl
+none_put_off (Settled u lone tied) s t e = refl
 none_put_off (Waits u before) s t e = refl
 none_put_off (Offered u before) s t e = refl
 none_put_off (Fork wait) s t e = absurd (cc)

@@ -1,5 +1,5 @@
 -- The queue of routers that come next.
-use Rattle.std.proofs.Common.{◌≡◌, ℕ, ◌+◌, ◌<◌, ◌≤◌, Bool, true, false, cond, List, [], ◌∷◌, length, set, Option, Some, None, refl, sym, ap, ◌∙◌, subst, inl, inr, arith}
+use Rattle.std.proofs.Common.{◌≡◌, ℕ, zero, suc, ◌+◌, ◌<◌, ◌≤◌, Bool, true, false, cond, List, [], ◌∷◌, length, set, Option, Some, None, refl, sym, ap, ◌∙◌, subst, inl, inr, arith}
 use Rattle.std.specs.Prelude.{slice_index_or}
 use Rattle.std.specs.declared.cmp.Reverse.{Reverse}
 use Rattle.std.specs.List.Sorted.{IsPermutation}
@@ -80,6 +80,12 @@ pub closed_settled : (s : State) (u : ℕ) (r : Route) → label s.labels u ≡ 
 unfolding open_size
 closed_settled s u r e = ap (λ (o : Option Route). open_size_by o (slice_index_or s.waits u None) (best_at s.bests u)) e
 
+-- a router without an offer is not open
+closed_without : (s : State) (u : ℕ) → best_at s.bests u ≡ None → open_size s u ≡ None
+unfolding open_size
+closed_without s u none = ap (λ (o : Option Best). open_size_by (label s.labels u) (slice_index_or s.waits u None) o) none
+    ∙ no_best (label s.labels u) (slice_index_or s.waits u None)
+
 -- the size of an open router is that of its best offer
 pub open_sized : (s : State) (u size : ℕ) (best : Best) → best_at s.bests u ≡ Some best → open_size s u ≡ Some size → size_of best.route ≡ size
 unfolding open_size
@@ -120,7 +126,7 @@ put_queued s bests router best turns others inside put kept listed q = record {
     t = record { labels = s.labels; waits = s.waits; bests = bests }
 
 pub taken_queued : (old new : Board) (router : ℕ) (route : Route) (turns : Turns) → router < length old.labels → new.labels ≡ set old.labels router (Some route) →
-    new.waits.items ≡ old.waits.items → new.bests.items ≡ old.bests.items → KeepsQueued old turns new turns
+    new.waits.items ≡ old.waits.items → new.bests.items ≡ set old.bests.items router None → KeepsQueued old turns new turns
 taken_queued old new router route turns inside labels waits bests = λ q. record {
   all = λ u size e.
       elim (cases_eq u router) [
@@ -133,7 +139,31 @@ taken_queued old new router route turns inside labels waits bests = λ q. record
         | inr differ ↦
             let other : label new.labels u ≡ label old.labels u =
             ap (λ (l : List (Option Route)). label l u) labels ∙ get_or-set_other old.labels router u (Some route) None differ in
-            let before = by_parts (state_of old) (state_of new) u other waits (ap (λ (l : List (Option Best)). best_at l u) bests) in
+            let before = by_parts (state_of old) (state_of new) u other waits
+            (ap (λ (l : List (Option Best)). best_at l u) bests ∙ get_or-set_other old.bests.items router u None None differ) in
+            q.all u size (sym before ∙ e)
+      ];
+}
+
+set_none : (bests : List (Option Best)) (i : ℕ) → best_at (set bests i None) i ≡ None
+set_none [] i = refl
+set_none (best ∷ bests) zero = refl
+set_none (best ∷ bests) (suc i) = set_none bests i
+
+-- a router without an offer is not open
+pub emptied_queued : (s t : State) (router : ℕ) (turns : Turns) → t.labels ≡ s.labels → t.waits ≡ s.waits → t.bests ≡ set s.bests router None →
+    IsQueued s turns → IsQueued t turns
+emptied_queued s t router turns labels waits bests q = record {
+  all = λ u size e.
+      elim (cases_eq u router) [
+        | inl here ↦
+            let at : best_at t.bests u ≡ None =
+            ap (λ (n : ℕ). best_at t.bests n) here ∙ ap (λ (l : List (Option Best)). best_at l router) bests ∙ set_none s.bests router in
+            let closed = closed_without t u at in
+            absurd (cc)
+        | inr differ ↦
+            let before = by_parts s t u (ap (λ (l : List (Option Route)). label l u) labels) waits
+            (ap (λ (l : List (Option Best)). best_at l u) bests ∙ get_or-set_other s.bests router u None None differ) in
             q.all u size (sym before ∙ e)
       ];
 }

@@ -1,5 +1,5 @@
 -- A router takes its best offer, and what it took is offered to others, edge by edge.
-use Rattle.std.proofs.Common.{◌≡◌, ℕ, ◌<◌, Bool, true, false, cond, List, [], ◌∷◌, ◌++◌, length, set, Option, Some, None, refl, sym, ap, ◌∙◌, subst, inl, inr, arith, length-set, get_or-set_other}
+use Rattle.std.proofs.Common.{◌≡◌, ◌≢◌, ℕ, ◌<◌, Bool, true, false, cond, List, [], ◌∷◌, ◌++◌, length, set, Option, Some, None, refl, sym, ap, ◌∙◌, subst, inl, inr, arith, length-set, get_or-set_other}
 use Rattle.std.specs.Prelude.{Contains, filter_map, is_some, nat_eq}
 use Rattle.std.proofs.lemmas.Bool.{cases_eq, eqb-true, eq-eqb}
 use Rattle.std.proofs.lemmas.List.Elements.{Contains-push, Contains-push_cases, Contains-append_left}
@@ -40,7 +40,7 @@ known_by P tied tied' A B state there back kept k = record {
   waits = k.waits;
   bests = k.bests;
   unsettled = λ u h e. knows_by P (A u) (B u) (best_at state.bests u) (there u) (back u) (k.unsettled u h e);
-  settled = λ u r e. holds_by P tied tied' (A u) (B u) (best_at state.bests u) r (there u) (back u) kept (k.settled u r e);
+  settled = λ u r e. holds_by P tied tied' (A u) (B u) r (there u) (back u) kept (k.settled u r e);
 }
 
 -- ---- an edge by what it is to its importer
@@ -96,18 +96,17 @@ module _ (P : Problem) (good : IsProblem P) where
         ];
       };
       waits = ap (λ (l : List (Option ℕ)). length l) t.waits ∙ state.knows.waits;
-      bests = ap (λ (l : List (Option Best)). length l) t.bests ∙ state.knows.bests;
+      bests = ap (λ (l : List (Option Best)). length l) t.bests ∙ length-set old.bests.items u None ∙ state.knows.bests;
       unsettled = λ v h f. (let n = not_set old.labels u v best.route within (labelled v None f) in
-          subst (KnowsBest P (Met v)) (sym (best_same v))
+          subst (KnowsBest P (Met v)) (sym (best_other v n.0))
           (knows_by P (IsCandidate P old.labels v) (Met v) (best_at old.bests.items v) (there v) (back v) (state.knows.unsettled v h n.1)));
       settled = λ v r f. elim (at_set old.labels u v best.route r within (labelled v (Some r) f)) [
         | inr before ↦
-            subst (λ (o : Option Best). HoldsBest P (is_tied new) (Met v) o r) (sym (best_same v))
-            (holds_by P (is_tied old) (is_tied new) (IsCandidate P old.labels v) (Met v) (best_at old.bests.items v) r (there v) (back v)
-            (λ x. (taken_tied old new u best t x).0) (state.knows.settled v r before))
+            holds_by P (is_tied old) (is_tied new) (IsCandidate P old.labels v) (Met v) r (there v) (back v)
+            (λ x. (taken_tied old new u best t x).0) (state.knows.settled v r before)
         | inl here ↦
-            subst (λ (w : ℕ). HoldsBest P (is_tied new) (Met w) (best_at new.bests.items w) r) (sym here.0)
-            (subst (λ (x : Route). HoldsBest P (is_tied new) (Met u) (best_at new.bests.items u) x) here.1 own)
+            subst (λ (w : ℕ). HoldsBest P (is_tied new) (Met w) r) (sym here.0)
+            (subst (λ (x : Route). HoldsBest P (is_tied new) (Met u) x) here.1 own)
       ];
     };
   }
@@ -124,8 +123,8 @@ module _ (P : Problem) (good : IsProblem P) where
       labelled : (v : ℕ) (o : Option Route) → label new.labels v ≡ o → label (set old.labels u (Some best.route)) v ≡ o
       labelled v o f = ap (λ (l : List (Option Route)). label l v) (sym t.labels) ∙ f
 
-      best_same : (v : ℕ) → best_at new.bests.items v ≡ best_at old.bests.items v
-      best_same v = ap (λ (l : List (Option Best)). best_at l v) t.bests
+      best_other : (v : ℕ) → v ≢ u → best_at new.bests.items v ≡ best_at old.bests.items v
+      best_other v differ = ap (λ (l : List (Option Best)). best_at l v) t.bests ∙ get_or-set_other old.bests.items u v None None differ
 
       there : (v : ℕ) (c : Route) → IsCandidate P old.labels v c → Met v c
       there v c cand = met_before cand
@@ -134,12 +133,8 @@ module _ (P : Problem) (good : IsProblem P) where
       back v c (met_before cand) = cand
       back v c (met_over i at imp gives) = absurd (none_in i at)
 
-      own : HoldsBest P (is_tied new) (Met u) (best_at new.bests.items u) best.route
+      own : HoldsBest P (is_tied new) (Met u) best.route
       own = record {
-        best = best;
-        is_known = best_same u ∙ e;
-        is_route = refl;
-        lone = q.lone;
         held = met_before q.held;
         unbeaten = λ c m. q.unbeaten c (back u c m);
         same = λ untied c m. q.same (taken_tied old new u best t untied).1 c (back u c m);
@@ -171,7 +166,7 @@ module _ (P : Problem) (good : IsProblem P) where
 
   module _ (before : List (Option Route)) (exporter : ℕ) (done : List Import) (i : Import) (old new : Board) (offer : Best) (outcome : Outcome) (route : Route)
       (gives : over P old.labels (edge_of exporter i) ≡ Some route) (is_offer : IsOfferOf P route offer) (inside : i.importer < count P)
-      (adds : Adds old new i.importer offer outcome) (part : IsPart P (is_tied old) before exporter done (state_of old)) where
+      (adds : Adds P old new i.importer offer outcome) (part : IsPart P (is_tied old) before exporter done (state_of old)) where
     offered : over P new.labels (edge_of exporter i) ≡ Some offer.route
     offered = ap (λ (l : List (Option Route)). over P l (edge_of exporter i)) adds.labels ∙ gives ∙ ap Some (sym is_offer.same)
 

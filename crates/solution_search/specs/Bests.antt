@@ -1,5 +1,5 @@
 -- The best route that a router is offered, and how a further one compares with it.
-use Rattle.std.specs.Prelude.{◌≡◌, ◌≢◌, Bool, true, false, Option, Some, None, if◌then◌else◌}
+use Rattle.std.specs.Prelude.{◌≡◌, ◌≢◌, ℕ, Bool, true, false, List, Option, Some, None, if◌then◌else◌}
 use Rattle.std.specs.Ordering.{nat_cmp}
 use Rattle.std.specs.Cmp.Lexicographic.{slice_cmp}
 use Rattle.std.specs.declared.cmp.Ordering.{Ordering}
@@ -30,9 +30,13 @@ rank_by Equal Equal Less = rank.TiedBetter Path
 rank_by Equal Equal Greater = rank.TiedWorse Path
 rank_by Equal Equal Equal = rank.Equal
 
+-- how an offer compares with a route that has these lone numbers
+abbrev pub rank_over : Best → Route → List ℕ → Rank
+rank_over offer route lone = rank_by (compare_weak (key_of_best offer) (key_with route lone))
+    (slice_cmp nat_cmp (comms_of offer.route) (comms_of route)) (slice_cmp nat_cmp offer.lone lone)
+
 abbrev pub rank_of : Best → Best → Rank
-rank_of offer best = rank_by (compare_weak (key_of_best offer) (key_of_best best))
-    (slice_cmp nat_cmp (comms_of offer.route) (comms_of best.route)) (slice_cmp nat_cmp offer.lone best.lone)
+rank_of offer best = rank_over offer best.route best.lone
 
 abbrev pub with_tie : Best → Difference → Best
 with_tie best difference = record { route = best.route; lone = best.lone; tied = Some difference }
@@ -57,6 +61,10 @@ replaced (rank.TiedWorse difference) best offer = if told best.tied difference t
 replaced rank.Equal best offer = None
 replaced rank.Worse best offer = None
 
+-- the route as an offer that no other ties with
+abbrev pub fresh_of : Problem → Route → Best
+fresh_of problem route = record { route = route; lone = chosen (is_lone_number problem) (path_of route); tied = None }
+
 -- the lone numbers on the path are told right, and no tie is told
 pub record IsFresh (problem : Problem) (offer : Best) : Type 0 where
   pub lone : offer.lone ≡ chosen (is_lone_number problem) (path_of offer.route)
@@ -78,13 +86,8 @@ pub record KnowsBest (problem : Problem) (IsMet : Route → Type 0) (known : Opt
   pub none : known ≡ None → (c : Route) → ¬ IsMet c
   pub some : (best : Best) → known ≡ Some best → IsBestOf problem IsMet best
 
--- the label is the best offer, and none beats it; where no tie is told, those of its preference and size
--- have its key
-pub record HoldsBest (problem : Problem) (tied : Bool) (IsMet : Route → Type 0) (known : Option Best) (route : Route) : Type 0 where
-  pub best : Best
-  pub is_known : known ≡ Some best
-  pub is_route : best.route ≡ route
-  pub lone : best.lone ≡ chosen (is_lone_number problem) (path_of route)
+-- the label is met, and none beats it; where no tie is told, those of its preference and size have its key
+pub record HoldsBest (problem : Problem) (tied : Bool) (IsMet : Route → Type 0) (route : Route) : Type 0 where
   pub held : IsMet route
   pub unbeaten : (c : Route) → IsMet c → compare_keys (key_of problem c) (key_of problem route) ≢ Less
   pub same : tied ≡ false → (c : Route) → IsMet c → compare_weak (key_of problem c) (key_of problem route) ≡ Equal →

@@ -17,12 +17,12 @@ use Rattle.solution_search.specs.declared.board.Tie.{Tie}
 use Rattle.solution_search.specs.declared.board.Wait.{Wait}
 use Rattle.solution_search.specs.declared.settling.Outcome.{Outcome}
 use Rattle.solution_search.specs.declared.settling.Outcome.TheVariants as outcome
-use Rattle.solution_search.specs.Bests.{KnowsBest, HoldsBest, rank_of, told, replaced}
+use Rattle.solution_search.specs.Bests.{KnowsBest, HoldsBest, fresh_of, rank_of, told, replaced}
 use Rattle.solution_search.specs.Cases.{Case}
 
 -- ---- the state of a board
 
--- labels, the preferences that routers wait for, and best offers, by router
+-- labels, the preferences that routers wait for, and best offers of those without a label, by router
 pub record State : Type 0 where
   pub labels : List (Option Route)
   pub waits : List (Option ℕ)
@@ -42,8 +42,17 @@ is_tied board = is_some board.tie
 
 -- ---- undoing changes
 
+-- the offer that became a label
+abbrev pub offer_back : Option Route → List ℕ → Option Difference → Option Best
+offer_back None lone tied = None
+offer_back (Some route) lone tied = Some (record { route = route; lone = lone; tied = tied })
+
 abbrev pub undo : Change → State → State
-undo (Settled router) state = record { labels = set state.labels router None; waits = state.waits; bests = state.bests }
+undo (Settled router lone tied) state = record {
+  labels = set state.labels router None;
+  waits = state.waits;
+  bests = set state.bests router (offer_back (label state.labels router) lone tied);
+}
 undo (Waits router before) state = record { labels = state.labels; waits = set state.waits router before; bests = state.bests }
 undo (Offered router before) state = record { labels = state.labels; waits = state.waits; bests = set state.bests router before }
 undo (Fork wait) state = state
@@ -59,10 +68,16 @@ waits_for wait state = record { labels = state.labels; waits = set state.waits w
 
 -- what is put off at a change, in the state before it
 abbrev pub put_off : Change → State → List State
-put_off (Settled router) state = []
+put_off (Settled router lone tied) state = []
 put_off (Waits router before) state = []
 put_off (Offered router before) state = []
 put_off (Fork wait) state = waits_for wait state ∷ []
+
+abbrev pub is_fork : Change → Bool
+is_fork (Settled router lone tied) = false
+is_fork (Waits router before) = false
+is_fork (Offered router before) = false
+is_fork (Fork wait) = true
 
 -- what was put off at some changes that led to the state, the last first
 abbrev pub pending : List Change → State → List State
@@ -88,7 +103,7 @@ pub record GoesOn (old new : Board) : Type 0 where
 
 -- the change is that of one of so many routers
 abbrev pub IsWithin : ℕ → Change → Type 0
-IsWithin routers (Settled router) = router < routers
+IsWithin routers (Settled router lone tied) = router < routers
 IsWithin routers (Waits router before) = router < routers
 IsWithin routers (Offered router before) = router < routers
 IsWithin routers (Fork wait) = wait.router < routers
@@ -114,17 +129,16 @@ Puts old new router None = (new.bests.items ≡ old.bests.items) × (new.changes
 Puts old new router (Some best) = (new.bests.items ≡ set old.bests.items router (Some best))
     × (new.changes.items ≡ old.changes.items ++ Offered router (best_at old.bests.items router) ∷ [])
 
--- what is put where the router has an offer, or none, and is settled or not
-abbrev pub better_than : Option Best → Bool → Best → Option Best
-better_than None settled offer = Some offer
-better_than (Some best) true offer = None
-better_than (Some best) false offer = replaced (rank_of offer best) best offer
+-- what is put where the router has a label or none, and an offer or none
+abbrev pub better_than : Option Route → Option Best → Best → Option Best
+better_than (Some label) known offer = None
+better_than None None offer = Some offer
+better_than None (Some best) offer = replaced (rank_of offer best) best offer
 
 -- how the offer compares with the label of a settled router
-abbrev pub rank_at : Option Best → Bool → Best → Rank
-rank_at None settled offer = rank.Equal
-rank_at (Some best) true offer = rank_of offer best
-rank_at (Some best) false offer = rank.Equal
+abbrev pub rank_at : Problem → Option Route → Best → Rank
+rank_at problem None offer = rank.Equal
+rank_at problem (Some label) offer = rank_of offer (fresh_of problem label)
 
 abbrev pub outcome_of : Rank → Outcome
 outcome_of rank.Better = outcome.Upset
@@ -160,12 +174,12 @@ pub record SameButWaits (old new : Board) : Type 0 where
   pub tie : new.tie ≡ old.tie
 
 -- what comes of a further offer
-pub record Adds (old new : Board) (router : ℕ) (offer : Best) (outcome : Outcome) : Type 0 where
+pub record Adds (problem : Problem) (old new : Board) (router : ℕ) (offer : Best) (outcome : Outcome) : Type 0 where
   pub labels : new.labels ≡ old.labels
   pub waits : new.waits.items ≡ old.waits.items
-  pub put : Puts old new router (better_than (best_at old.bests.items router) (is_some (label old.labels router)) offer)
-  pub tie : new.tie ≡ noted_by old.tie router (rank_at (best_at old.bests.items router) (is_some (label old.labels router)) offer)
-  pub is_outcome : outcome ≡ outcome_of (rank_at (best_at old.bests.items router) (is_some (label old.labels router)) offer)
+  pub put : Puts old new router (better_than (label old.labels router) (best_at old.bests.items router) offer)
+  pub tie : new.tie ≡ noted_by old.tie router (rank_at problem (label old.labels router) offer)
+  pub is_outcome : outcome ≡ outcome_of (rank_at problem (label old.labels router) offer)
 
 -- ---- what a board knows
 
@@ -176,7 +190,7 @@ pub record Knows (problem : Problem) (tied : Bool) (IsMet : ℕ → Route → Ty
   pub waits : length state.waits ≡ count problem
   pub bests : length state.bests ≡ count problem
   pub unsettled : (u : ℕ) → u < count problem → label state.labels u ≡ None → KnowsBest problem (IsMet u) (best_at state.bests u)
-  pub settled : (u : ℕ) (r : Route) → label state.labels u ≡ Some r → HoldsBest problem tied (IsMet u) (best_at state.bests u) r
+  pub settled : (u : ℕ) (r : Route) → label state.labels u ≡ Some r → HoldsBest problem tied (IsMet u) r
 
 -- the best candidates are known
 pub record IsState (problem : Problem) (tied : Bool) (state : State) : Type 0 where
@@ -215,6 +229,6 @@ noted_at_take tie router (Some by) = noted_tie tie router by
 pub record Takes (old new : Board) (router : ℕ) (best : Best) : Type 0 where
   pub labels : new.labels ≡ set old.labels router (Some best.route)
   pub waits : new.waits.items ≡ old.waits.items
-  pub bests : new.bests.items ≡ old.bests.items
-  pub changes : new.changes.items ≡ old.changes.items ++ Settled router ∷ []
+  pub bests : new.bests.items ≡ set old.bests.items router None
+  pub changes : new.changes.items ≡ old.changes.items ++ Settled router best.lone best.tied ∷ []
   pub tie : new.tie ≡ noted_at_take old.tie router best.tied

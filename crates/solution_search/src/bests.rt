@@ -7,7 +7,7 @@ ghost use Rattle.std.specs.declared.cmp.Ordering.TheVariants.{Equal as WeaklyEqu
 ghost use Rattle.srp_core.specs.Routes.{comms_of};
 ghost use Rattle.srp_core.specs.Weak.{compare_weak};
 ghost use Rattle.route_keys.specs.Keys.{key_with};
-ghost use Rattle.solution_search.specs.Bests.{rank_by, rank_of, told, joined, replaced, with_tie};
+ghost use Rattle.solution_search.specs.Bests.{rank_by, rank_of, rank_over, told, joined, replaced, with_tie};
 
 use base_kit::{NoMemory, NumSet};
 use route_keys::{comms_of, preference_of, size_of};
@@ -53,13 +53,13 @@ fn weak_cmp(route: &Route, other: &Route) -> Ordering
 }
 
 // Where preference and size are equal, by communities and then by lone numbers.
-fn rank_of_tied(offer: &Best, best: &Best) -> Rank
-    ensures { result ≡ rank_by WeaklyEqual (slice_cmp nat_cmp (comms_of offer.now.route) (comms_of best.now.route)) (slice_cmp nat_cmp offer.now.lone best.now.lone) }
+fn rank_of_tied(offer: &Best, route: &Route, lone: &NumSet) -> Rank
+    ensures { result ≡ rank_by WeaklyEqual (slice_cmp nat_cmp (comms_of offer.now.route) (comms_of route.now)) (slice_cmp nat_cmp offer.now.lone lone.now) }
 {
-    match comms_of(&offer.route).cmp(&comms_of(&best.route)) {
+    match comms_of(&offer.route).cmp(&comms_of(route)) {
         Ordering::Less => Rank::TiedBetter(Difference::Communities),
         Ordering::Greater => Rank::TiedWorse(Difference::Communities),
-        Ordering::Equal => match offer.lone.cmp(&best.lone) {
+        Ordering::Equal => match offer.lone.cmp(lone) {
             Ordering::Less => Rank::TiedBetter(Difference::Path),
             Ordering::Greater => Rank::TiedWorse(Difference::Path),
             Ordering::Equal => Rank::Equal,
@@ -67,14 +67,14 @@ fn rank_of_tied(offer: &Best, best: &Best) -> Rank
     }
 }
 
-/// How an offer compares with the best one so far.
-pub(crate) fn rank_of(offer: &Best, best: &Best) -> Rank
-    ensures { result ≡ rank_of offer.now best.now }
+/// How an offer compares with a route that has these lone numbers on its path.
+pub(crate) fn rank_over(offer: &Best, route: &Route, lone: &NumSet) -> Rank
+    ensures { result ≡ rank_over offer.now route.now lone.now }
 {
-    match weak_cmp(&offer.route, &best.route) {
+    match weak_cmp(&offer.route, route) {
         Ordering::Less => Rank::Better,
         Ordering::Greater => Rank::Worse,
-        Ordering::Equal => rank_of_tied(offer, best),
+        Ordering::Equal => rank_of_tied(offer, route, lone),
     }
 }
 
@@ -116,7 +116,7 @@ fn with_tie(alloc: Global, best: &Best, difference: Difference) -> Result<Best, 
 pub(crate) fn replacement(alloc: Global, best: &Best, offer: Best) -> Result<Option<Best>, NoMemory>
     ensures { IfOk result (λ other. other ≡ replaced (rank_of offer best.now) best.now offer) }
 {
-    match rank_of(&offer, best) {
+    match rank_over(&offer, &best.route, &best.lone) {
         Rank::Better => Ok(Some(offer)),
         Rank::TiedBetter(difference) => Ok(Some(Best {
             route: offer.route,

@@ -6,7 +6,7 @@ ghost use Rattle.solution_search.specs.Queues.{KeepsQueued};
 
 use crate::bests::{Best, Difference, is_told};
 use crate::queue::Queue;
-use base_kit::NoMemory;
+use base_kit::{NoMemory, NumSet};
 use route_keys::size_of;
 use srp_core::Labels;
 use std::mem::replace;
@@ -29,18 +29,28 @@ pub(crate) struct Wait {
 /// A change of the board.
 #[derive(Drop)]
 pub(crate) enum Change {
-    /// The router took its best offer.
-    Settled(u32),
+    /// The router took its best offer, with these lone numbers and that tie.
+    Settled {
+        router: u32,
+        lone: NumSet,
+        tied: Option<Difference>,
+    },
     /// The router began to wait for a higher preference than before.
-    Waits { router: u32, before: Option<u32> },
+    Waits {
+        router: u32,
+        before: Option<u32>,
+    },
     /// The router's best offer was replaced.
-    Offered { router: u32, before: Option<Best> },
+    Offered {
+        router: u32,
+        before: Option<Best>,
+    },
     /// None, but the router may wait instead of what follows.
     Fork(Wait),
 }
 
 /// For each router its label if it is settled, the preference above which it waits for an offer if it
-/// waits, and its best offer; all changes since the start; and a tie, if one was met.
+/// waits, and its best offer if it has taken none; all changes since the start; and a tie, if one was met.
 #[derive(Drop)]
 pub(crate) struct Board {
     pub(crate) labels: Labels,

@@ -60,8 +60,8 @@ fn step(alloc: Global, act: &Act, number: u32, route: &Route) -> Result<Option<R
     }
 }
 
-// The numbers of lone routers on the path of a route. Where no router is lone, the path is not looked at.
-fn lone_of(lookups: &Lookups, route: &Route) -> Result<NumSet, NoMemory>
+/// The numbers of lone routers on the path of a route. Where no router is lone, the path is not looked at.
+pub(crate) fn lone_of(lookups: &Lookups, route: &Route) -> Result<NumSet, NoMemory>
     ensures { IfOk result (λ lone. lone ≡ chosen (is_lone_number lookups.now) (path_of route.now)) }
 {
     if lookups.lone.is_empty() {

@@ -165,7 +165,12 @@ fn advance(lookups: &Lookups, board: &mut Board, queue: &mut Queue) -> Result<Lo
 }
 
 // Goes back to the last fork, or ends.
-fn go_back(board: &mut Board, queue: &mut Queue, routers: u32) -> Result<Option<Ending>, NoMemory>
+fn go_back(
+    alloc: Global,
+    board: &mut Board,
+    queue: &mut Queue,
+    routers: u32,
+) -> Result<Option<Ending>, NoMemory>
     requires fits { Fits (length board.old.labels) board.old }
     requires routers { routers ≡ length board.old.labels }
     ensures fits { IfOk result (λ _. Fits (length board.old.labels) board.new) }
@@ -173,7 +178,7 @@ fn go_back(board: &mut Board, queue: &mut Queue, routers: u32) -> Result<Option<
     ensures pending { IfOk result (GoesBack board.old board.new) }
     ensures queued { IfOk result (λ ending. IfNone ending (IsQueued (state_of board.new) queue.new)) }
 {
-    if turn_back(board)? {
+    if turn_back(alloc, board)? {
         queue_all(board, queue, routers)?;
         Ok(None)
     } else {
@@ -202,7 +207,7 @@ fn turn<V: Visitor>(
     match advance(lookups, board, queue)? {
         Look::Settled => Ok(None),
         Look::Dead => {
-            let ending = go_back(board, queue, routers)?;
+            let ending = go_back(lookups.alloc, board, queue, routers)?;
             Ok(ending)
         }
         Look::Solved => {
@@ -210,7 +215,7 @@ fn turn<V: Visitor>(
             if !visitor.wants_more() {
                 return Ok(Some(Ending::Stopped));
             }
-            let ending = go_back(board, queue, routers)?;
+            let ending = go_back(lookups.alloc, board, queue, routers)?;
             Ok(ending)
         }
     }

@@ -3,19 +3,22 @@
 ghost use Rattle.std.specs.Prelude.{◌≡◌, ◌<◌, IfOk, None, Some, length, true};
 ghost use Rattle.srp_core.specs.Problem.{count};
 ghost use Rattle.srp_core.specs.Stability.{label};
+ghost use Rattle.solution_search.specs.Bests.{fresh_of, rank_of};
 ghost use Rattle.solution_search.specs.declared.bests.Best.{Best as BestOffer};
 ghost use Rattle.solution_search.specs.Boards.{best_at, Fits, Adds, Takes, noted_by, noted_at_take, outcome_of};
 ghost use Rattle.solution_search.specs.Queues.{KeepsQueued, Turns};
 ghost use Rattle.solution_search.specs.Settled.{HasGiven, HasSpread, HasSettled};
 ghost use Rattle.solution_search.specs.declared.settling.Outcome.TheVariants.{Fine as IsFine};
 
-use crate::bests::{Best, Difference, Rank, rank_of, replacement};
+use crate::bests::{Best, Difference, Rank, rank_over, replacement};
 use crate::board::{Board, Change, note_tie, put_best};
 use crate::lookups::Lookups;
-use crate::offers::offer_over;
+use crate::offers::{lone_of, offer_over};
 use crate::queue::Queue;
 use crate::weighing::are_worse;
 use base_kit::NoMemory;
+use srp_core::Route;
+use std::mem::replace;
 
 /// What a further candidate makes of the labels that are settled.
 #[derive(Clone, Copy, Debug, PartialEq, Eq)]
@@ -45,6 +48,14 @@ fn judge(board: &mut Board, router: u32, rank: Rank) -> Outcome
     }
 }
 
+// How an offer compares with the label of a settled router.
+fn rank_at(lookups: &Lookups, label: &Route, offer: &Best) -> Result<Rank, NoMemory>
+    ensures { IfOk result (λ rank. rank ≡ rank_of offer.now (fresh_of lookups.now label.now)) }
+{
+    let lone = lone_of(lookups, label)?;
+    Ok(rank_over(offer, label, &lone))
+}
+
 // A router has a further candidate.
 fn add_offer(
     lookups: &Lookups,
@@ -55,32 +66,30 @@ fn add_offer(
 ) -> Result<Outcome, NoMemory>
     requires fits { Fits (count lookups.now) board.old }
     requires router { router < count lookups.now }
-    ensures adds { IfOk result (Adds board.old board.new router offer) }
+    ensures adds { IfOk result (Adds lookups.now board.old board.new router offer) }
     ensures queued { IfOk result (λ _. KeepsQueued board.old queue.old board.new queue.new) }
 {
-    let is_settled = board.labels.as_slice()[router as usize].is_some();
+    if let Some(label) = &board.labels.as_slice()[router as usize] {
+        let rank = rank_at(lookups, label, &offer)?;
+        return Ok(judge(board, router, rank));
+    }
     match &board.bests[router as usize] {
         None => {
             put_best(board, queue, router, offer)?;
             Ok(Outcome::Fine)
         }
-        Some(best) => {
-            if is_settled {
-                let rank = rank_of(&offer, best);
-                return Ok(judge(board, router, rank));
+        Some(best) => match replacement(lookups.alloc, best, offer)? {
+            None => Ok(Outcome::Fine),
+            Some(better) => {
+                put_best(board, queue, router, better)?;
+                Ok(Outcome::Fine)
             }
-            match replacement(lookups.alloc, best, offer)? {
-                None => Ok(Outcome::Fine),
-                Some(better) => {
-                    put_best(board, queue, router, better)?;
-                    Ok(Outcome::Fine)
-                }
-            }
-        }
+        },
     }
 }
 
-// Whether what the router gives over an edge is worse than the best offer of the importer, whichever route it is.
+// Whether what the router gives over an edge is worse than the label or the best offer of the importer,
+// whichever route it is.
 fn is_beaten(lookups: &Lookups, board: &Board, router: u32, importer: u32, act: u32) -> bool
     requires fits { Fits (count lookups.now) board.now }
     requires router { router < count lookups.now }
@@ -92,6 +101,9 @@ fn is_beaten(lookups: &Lookups, board: &Board, router: u32, importer: u32, act: 
     let Some(from) = &board.labels.as_slice()[router as usize] else {
         return false;
     };
+    if let Some(label) = &board.labels.as_slice()[importer as usize] {
+        return are_worse(lookups, act, from, label);
+    }
     let Some(best) = &board.bests[importer as usize] else {
         return false;
     };
@@ -167,13 +179,12 @@ fn take(lookups: &Lookups, board: &mut Board, router: u32) -> Result<(), NoMemor
     ensures queued { (turns : Turns) → IfOk result (λ _. KeepsQueued board.old turns board.new turns) }
     ensures takes { IfOk result (λ _. (best : BestOffer) → best_at board.old.bests.items router ≡ Some best → Takes board.old board.new router best) }
 {
-    match &board.bests[router as usize] {
+    match replace(&mut board.bests[router as usize], None) {
         None => Ok(()),
         Some(best) => {
-            let tied = best.tied;
-            let route = best.route.copy(lookups.alloc)?;
+            let Best { route, lone, tied } = best;
             board.labels.set(router, Some(route));
-            board.changes.push(Change::Settled(router))?;
+            board.changes.push(Change::Settled { router, lone, tied })?;
             note_at_take(board, router, tied);
             Ok(())
         }
