@@ -1,3 +1,4 @@
+mod Left
 mod Lines
 mod Marks
 mod Parts

@@ -1,10 +1,10 @@
 -- Links without which the answer is known.
 use Rattle.std.proofs.Common.{◌≡◌, ℕ, ◌<◌, Bool, true, false, cond, not, ◌&&◌, ◌||◌, List, [], ◌∷◌, length, refl, sym, ap, ◌∙◌, subst, inl, inr, arith}
-use Rattle.std.specs.Prelude.{None, filter, nat_eq, slice_index_or, slice_set}
+use Rattle.std.specs.Prelude.{◌≢◌, Option, Some, None, IfSome, filter, nat_eq, slice_index_or, slice_set}
 use Rattle.std.proofs.lemmas.Bool.{cases_eq, eq-eqb, ne_eqb}
 use Rattle.std.proofs.lemmas.List.{get_or-set_same, get_or-set_other}
 use Rattle.base_kit.specs.declared.act_graph.Edge.{Edge}
-use Rattle.srp_core.specs.Problem.{Problem}
+use Rattle.srp_core.specs.Problem.{Problem, count}
 use Rattle.srp_core.specs.Without.{Down, marked_down, is_left, IsWithout}
 use Rattle.srp_questions.specs.Answers.{IsVerdict}
 use Rattle.srp_questions.specs.Questions.{IsTrueIn}
@@ -15,10 +15,11 @@ use Rattle.spare_links.specs.Spare.{link_down, IsVerdictKept, SpareLinksKeepVerd
 use Rattle.ask_words.specs.declared.request.AskedOf.{AskedOf}
 use Rattle.ask_words.specs.declared.request.AskedOf.TheVariants as asked
 use Rattle.ask_names.specs.Routers.{question_for, routers_for}
+use Rattle.solution_search.specs.declared.board.Tie.{Tie}
 use Rattle.solution_answers.specs.Verdicts.{IsAnswer}
 use Rattle.ask_classes.specs.declared.asking.Asking.{Asking}
 use Rattle.ask_classes.specs.Failing.{Loss, IsTried}
-use Rattle.ask_classes.specs.Known.{keeps_verdict, untied, HasSpareLinks}
+use Rattle.ask_classes.specs.Known.{keeps_verdict, tie_at, tie_told, HasSpareLinks}
 use Rattle.ask_classes.specs.Scenes.{IsAsking}
 use Rattle.ask_classes.proofs.Losses.{asked_of_left}
 
@@ -100,17 +101,42 @@ kept_for names down asks Yes e = tt
 kept_for names down asks No e = kept_no names down asks e
 kept_for names down asks NoSolution e = absurd cc
 
+-- ---- the tie
+
+no_told : (verdict : Verdict) (tied : Option ℕ) → verdict ≡ No → tie_told verdict tied ≡ None
+no_told Yes tied is = absurd cc
+no_told No tied is = refl
+no_told NoSolution tied is = absurd cc
+
+none_at : (tied : Option ℕ) → tie_at tied ≡ None → tied ≡ None
+none_at None none = refl
+none_at (Some router) none = absurd cc
+
+none_told : (verdict : Verdict) (tied : Option ℕ) → verdict ≢ No → tie_told verdict tied ≡ None → tied ≡ None
+none_told Yes tied other none = none_at tied none
+none_told No tied other none = absurd (other refl)
+none_told NoSolution tied other none = none_at tied none
+
+at_inside : (tied : Option ℕ) (bound : ℕ) → IfSome tied (λ u. u < bound) → IfSome (tie_at tied) (λ (t : Tie). t.router < bound)
+at_inside None bound inside = tt
+at_inside (Some router) bound inside = inside
+
+told_inside : (verdict : Verdict) (tied : Option ℕ) (bound : ℕ) → IfSome tied (λ u. u < bound) → IfSome (tie_told verdict tied) (λ (t : Tie). t.router < bound)
+told_inside Yes tied bound inside = at_inside tied bound inside
+told_inside No tied bound inside = tt
+told_inside NoSolution tied bound inside = at_inside tied bound inside
+
 -- ---- the trial
 
 abbrev pub question_left : Asking → Question
 question_left asking = question_for asking.problems.now.whole.now.names (marked_down asking.scene.now.routers_down.now asking.scene.now.links_down.now) asking.asks.now
 
 pub is_known : SpareLinksKeepVerdicts → (asking : Asking) → IsAsking asking → (verdict : Verdict) → keeps_verdict asking.asks.now verdict ≡ true →
-    IsVerdict asking.problems.now.left.now (IsTrueIn (question_left asking) asking.problems.now.left.now) verdict → (marks : List Bool) →
-    HasSpareLinks asking.problems.now.left.now marks → (place : ℕ) (loss : Loss) → place < length asking.scene.now.links.now →
+    IsVerdict asking.problems.now.left.now (IsTrueIn (question_left asking) asking.problems.now.left.now) verdict → (marks : List Bool) (tied : Option ℕ) →
+    HasSpareLinks asking.problems.now.left.now marks tied → (place : ℕ) (loss : Loss) → place < length asking.scene.now.links.now →
     slice_index_or marks place false ≡ true → loss.down ≡ marked_down asking.scene.now.routers_down.now (slice_set asking.scene.now.links_down.now place true) →
-    IsTried asking.problems.now.whole.now asking.asks.now loss (untied verdict)
-is_known law asking is verdict keeps holds marks found place loss less marked down_is =
+    IsTried asking.problems.now.whole.now asking.asks.now loss (record { verdict = verdict; tied = tie_told verdict tied })
+is_known law asking is verdict keeps holds marks tied found place loss less marked down_is =
     let whole = asking.problems.now.whole.now in
     let left = asking.problems.now.left.now in
     let asks = asking.asks.now in
@@ -120,15 +146,21 @@ is_known law asking is verdict keeps holds marks found place loss less marked do
     let down = marked_down routers links in
     let as_many = is.scene.each_link in
     let is_asked = asked_of_left whole left down down asks (question_left asking) is.scene.left refl in
-    let stays = law left found.labels marks place (question_left asking) verdict found.are marked is_asked (kept_for whole.names down asks verdict keeps) holds in
+    let told = tie_told verdict tied in
+    let stays = law left found.labels marks tied place (question_left asking) verdict found.are marked is_asked (kept_for whole.names down asks verdict keeps) holds in
     let without = also_without whole left stays.other routers links place (omega arith) is.scene.left stays.without in
-    let answer : IsAnswer stays.other (question_left asking) verdict None = record {
+    let many : count stays.other ≡ count left = ap (λ (ns : List ℕ). length ns) stays.without.numbers in
+    let answer : IsAnswer stays.other (question_left asking) verdict told = record {
       is = stays.is;
-      told = record { unasked = λ no. refl; tieless = λ other none. record { found = stays.solution ∷ []; are = stays.all; holds = stays.holds }; router = tt };
+      told = record {
+        unasked = λ is_no. no_told verdict tied is_no;
+        tieless = λ other none. record { found = stays.solution ∷ []; are = stays.all; holds = stays.holds (none_told verdict tied other none) };
+        router = told_inside verdict tied (count stays.other) (subst (λ (n : ℕ). IfSome tied (λ u. u < n)) (sym many) found.are.router);
+      };
     } in
     record {
       other = stays.other;
       without = subst (λ (d : Down). IsWithout whole d stays.other) (sym down_is) without;
-      answer = subst (λ (d : Down). IsAnswer stays.other (question_for whole.names d asks) verdict None) (sym down_is)
-          (subst (λ (q : Question). IsAnswer stays.other q verdict None) (same_question whole.names routers links more asks) answer);
+      answer = subst (λ (d : Down). IsAnswer stays.other (question_for whole.names d asks) verdict told) (sym down_is)
+          (subst (λ (q : Question). IsAnswer stays.other q verdict told) (same_question whole.names routers links more asks) answer);
     }

@@ -1,4 +1,5 @@
 mod Knowing
 mod Losses
 mod Parts
+mod Runs
 mod Trying

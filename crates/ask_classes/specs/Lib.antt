@@ -1,6 +1,7 @@
 pub mod Answered
 pub mod Failing
 pub mod Known
+pub mod Runs
 pub mod Scenes
 pub mod Tasks
 pub mod Tries

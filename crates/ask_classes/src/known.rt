@@ -1,10 +1,10 @@
 //! Links without which the answer is known: where no router is lone, the loss of a link that is spare keeps it.
 
-ghost use Rattle.std.specs.Prelude.{◌≡◌, [], IfOk, IfSome};
+ghost use Rattle.std.specs.Prelude.{◌≡◌, [], IfOk, IfSome, None};
 ghost use Rattle.srp_core.specs.Without.{marked_down};
 ghost use Rattle.srp_questions.specs.Answers.{IsVerdict};
 ghost use Rattle.srp_questions.specs.Questions.{IsTrueIn};
-ghost use Rattle.ask_classes.specs.Known.{keeps_verdict, is_of_labels, untied, HasSpareLinks, KnowsTrials};
+ghost use Rattle.ask_classes.specs.Known.{keeps_verdict, is_of_labels, tie_told, trial_known, HasSpareLinks, KnowsTrials};
 ghost use Rattle.ask_classes.specs.Scenes.{IsAsking};
 ghost use Rattle.ask_classes.specs.Tries.{trial_of};
 ghost use Rattle.ask_names.specs.Routers.{question_for};
@@ -13,18 +13,19 @@ use crate::asking::Asking;
 use ask_words::AskedOf;
 use base_kit::NoMemory;
 use solution_answers::Answer;
-use solution_search::{Visitor, search};
+use solution_search::{Difference, Tie, Visitor, search};
 use spare_links::laws::spare_links_keep_verdicts;
-use spare_links::spare_links;
+use spare_links::{SpareLinks, spare_links};
 use srp_core::{Labels, Srp};
 use srp_questions::Verdict;
 use std::alloc::Global;
 
-/// Marks of the links without which the answer is known, and its verdict.
+/// Marks of the links without which the answer is known, its verdict, and the tie that it hangs on.
 #[derive(Drop)]
 pub(crate) struct Known {
     pub(crate) marks: Vec<bool>,
     pub(crate) verdict: Verdict,
+    pub(crate) tie: Option<Tie>,
 }
 
 impl Known {
@@ -35,16 +36,17 @@ impl Known {
         Known {
             marks: Vec::new(alloc),
             verdict,
+            tie: None,
         }
     }
 
     /// The answer that is known.
     pub(crate) fn answer(&self, alloc: Global) -> Answer
-        ensures { trial_of result ≡ untied self.now.verdict }
+        ensures { trial_of result ≡ trial_known self.now }
     {
         Answer {
             verdict: self.verdict,
-            tie: None,
+            tie: self.tie,
             shown: Vec::new(alloc),
         }
     }
@@ -71,13 +73,29 @@ fn is_kept(asks: &AskedOf, verdict: Verdict) -> bool
     }
 }
 
+// The tie that is told with the verdict, where routes tie at that router.
+fn tie_told(verdict: Verdict, tied: Option<u32>) -> Option<Tie>
+    ensures { result ≡ tie_told verdict tied }
+{
+    match verdict {
+        Verdict::No => None,
+        Verdict::Yes | Verdict::NoSolution => match tied {
+            None => None,
+            Some(router) => Some(Tie {
+                router,
+                by: Difference::Communities,
+            }),
+        },
+    }
+}
+
 // Is shown a solution, and marks the links that are spare under it.
 #[derive(Drop)]
 struct Marker<'a> {
     alloc: Global,
     srp: &'a Srp,
     links: usize,
-    marks: Option<Vec<bool>>,
+    spare: Option<SpareLinks>,
 }
 
 impl<'a> Visitor for Marker<'a> {
@@ -90,12 +108,12 @@ impl<'a> Visitor for Marker<'a> {
 
     ghost problem = { λ v. v.srp.now };
 
-    ghost Saw = { λ v found. IfSome v.marks (λ marks. HasSpareLinks v.srp.now marks.items) };
+    ghost Saw = { λ v found. IfSome v.spare (λ spare. HasSpareLinks v.srp.now spare.marks.items spare.tied) };
 
     ghost wants = { λ v. false };
 
     fn see(&mut self, labels: &Labels) -> Result<(), NoMemory> {
-        self.marks = spare_links(self.alloc, self.srp, labels, self.links)?;
+        self.spare = spare_links(self.alloc, self.srp, labels, self.links)?;
         Ok(())
     }
 
@@ -105,8 +123,8 @@ impl<'a> Visitor for Marker<'a> {
 }
 
 // Marks the links that are spare under a solution, if they can be told.
-fn spare_marks(alloc: Global, srp: &Srp, links: usize) -> Result<Option<Vec<bool>>, NoMemory>
-    ensures { IfOk result (λ found. IfSome found (λ marks. HasSpareLinks srp.now marks.items)) }
+fn spare_found(alloc: Global, srp: &Srp, links: usize) -> Result<Option<SpareLinks>, NoMemory>
+    ensures { IfOk result (λ found. IfSome found (λ spare. HasSpareLinks srp.now spare.marks.items spare.tied)) }
 {
     if srp.lone().contains(&true) {
         return Ok(None);
@@ -115,11 +133,11 @@ fn spare_marks(alloc: Global, srp: &Srp, links: usize) -> Result<Option<Vec<bool
         alloc,
         srp,
         links,
-        marks: None,
+        spare: None,
     };
     search(alloc, srp, &mut marker)?;
-    let Marker { marks, .. } = marker;
-    Ok(marks)
+    let Marker { spare, .. } = marker;
+    Ok(spare)
 }
 
 /// The links without which the answer is known, where the answer with them has this verdict.
@@ -137,8 +155,12 @@ pub(crate) fn known_of(alloc: Global, asking: &Asking, verdict: Verdict) -> Resu
         return Ok(Known::nothing(alloc, verdict));
     }
     let links = asking.scene.links.len();
-    match spare_marks(alloc, asking.problems.left, links)? {
-        Some(marks) => Ok(Known { marks, verdict }),
+    match spare_found(alloc, asking.problems.left, links)? {
+        Some(spare) => Ok(Known {
+            marks: spare.marks,
+            verdict,
+            tie: tie_told(verdict, spare.tied),
+        }),
         None => Ok(Known::nothing(alloc, verdict)),
     }
 }

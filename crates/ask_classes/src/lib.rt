@@ -8,6 +8,7 @@
 mod asking;
 mod class_parts;
 mod known;
+mod link_run;
 mod link_trials;
 mod manner;
 mod router_trials;

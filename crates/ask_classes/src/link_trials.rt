@@ -1,14 +1,16 @@
 //! The answers of a class without each one link more.
 
-ghost use Rattle.std.specs.Prelude.{◌≡◌, ◌<◌, ◌≤◌, ◌^◌, ◌++◌, true, IfOk, OnOk, length, slice_set};
+ghost use Rattle.std.specs.Prelude.{◌≡◌, ◌<◌, ◌≤◌, ◌+◌, ◌^◌, ◌++◌, true, IfOk, OnOk, length, slice_set};
 ghost use Rattle.srp_core.specs.Without.{marked_down};
-ghost use Rattle.ask_classes.specs.Failing.{is_link_left, link_losses, loss_of_link, link_rank, trial_line, IsTried, Loss};
+ghost use Rattle.ask_classes.specs.Failing.{is_link_left, link_losses, loss_of_link, trial_line, IsTried, Loss};
 ghost use Rattle.ask_classes.specs.Known.{KnowsTrials};
+ghost use Rattle.ask_classes.specs.Runs.{IsRun};
 ghost use Rattle.ask_classes.specs.Scenes.{IsAsking};
 ghost use Rattle.ask_classes.specs.Tries.{StepsOver, trial_of, WritesTrials};
 
 use crate::asking::{Asking, is_marked, with_mark};
 use crate::known::Known;
+use crate::link_run::LinkRun;
 use crate::tally::Tally;
 use ask_names::name_at;
 use base_kit::NoMemory;
@@ -25,17 +27,6 @@ fn is_link_left(routers: &[bool], links: &[bool], place: usize, link: Link) -> b
         && !is_marked(routers, link.high as usize)
 }
 
-// Which of the links between its routers a link is, counted from 1.
-fn link_rank(links: &[Link], place: usize, link: Link) -> usize
-    requires { place < length links.now }
-    ensures { result ≡ link_rank links.now place link }
-{
-    links[..place + 1]
-        .iter()
-        .filter(|other| link.low == other.low && link.high == other.high)
-        .count()
-}
-
 // Appends the line of a trial if its answer is not `yes`.
 fn put_trial(
     alloc: Global,
@@ -43,10 +34,12 @@ fn put_trial(
     asking: &Asking,
     place: usize,
     link: Link,
+    run: LinkRun,
     answer: &Answer,
 ) -> Result<(), NoMemory>
     requires asking { IsAsking asking.now }
     requires place { place < length asking.now.scene.now.links.now }
+    requires run { IsRun asking.now.scene.now.links.now (place + 1) run }
     ensures { OnOk result (bytes.new.items ≡ bytes.old.items ++ trial_line (loss_of_link asking.now.problems.now.whole.now.names asking.now.scene.now.links.now asking.now.scene.now.routers_down.now asking.now.scene.now.links_down.now (place, link), trial_of answer.now)) }
 {
     if is_yes(answer.verdict) {
@@ -54,7 +47,7 @@ fn put_trial(
     }
     let low = name_at(asking.scene.network, link.low);
     let high = name_at(asking.scene.network, link.high);
-    let rank = link_rank(asking.scene.links, place, link);
+    let rank = run.rank(asking.scene.links, place, link);
     let word = verdict_word(answer.verdict);
     let line = format!(in alloc; "link {low} {high} {rank} {word}\n")?;
     put(bytes, line.as_bytes())
@@ -87,11 +80,13 @@ fn try_link(
     known: &Known,
     place: usize,
     link: Link,
+    run: LinkRun,
     tally: Tally,
 ) -> Result<Tally, NoMemory>
     requires asking { IsAsking asking.now }
     requires known { KnowsTrials asking.now known.now }
     requires place { place < length asking.now.scene.now.links.now }
+    requires run { IsRun asking.now.scene.now.links.now (place + 1) run }
     requires tried { tally.tried < 2 ^ 32 }
     requires failed { tally.failed ≤ tally.tried }
     requires tied { tally.tied ≤ tally.tried }
@@ -104,7 +99,7 @@ fn try_link(
         return Ok(tally);
     }
     let answer = answer_without(alloc, asking, known, place)?;
-    put_trial(alloc, bytes, asking, place, link, &answer)?;
+    put_trial(alloc, bytes, asking, place, link, run, &answer)?;
     Ok(tally.with(&answer))
 }
 
@@ -124,9 +119,11 @@ pub(crate) fn put_link_trials(
         (link_losses asking.now.problems.now.whole.now.names asking.now.scene.now.links.now asking.now.scene.now.routers_down.now asking.now.scene.now.links_down.now) bytes.old.items bytes.new.items) }
 {
     let links = asking.scene.links;
+    let mut run = LinkRun::none();
     let mut tally = Tally::none();
     for place in 0..links.len() {
-        tally = try_link(alloc, bytes, asking, known, place, links[place], tally)?;
+        run = run.with(links, place);
+        tally = try_link(alloc, bytes, asking, known, place, links[place], run, tally)?;
     }
     Ok(tally)
 }

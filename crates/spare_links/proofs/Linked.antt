@@ -1,6 +1,6 @@
--- The links over which routers forward, one edge after another.
+-- The links over which routers forward, and over which routes tie, one edge after another.
 use Rattle.std.proofs.Common.{◌≡◌, ◌≢◌, ℕ, ◌+◌, ◌<◌, ◌≤◌, Bool, true, false, cond, List, [], ◌∷◌, ◌++◌, length, take, get_or, nat_eq, refl, sym, ◌∙◌, ap, subst, arith, inl, inr, ◌⊎◌, take_all}
-use Rattle.std.specs.Prelude.{Option, Contains, slice_index_or}
+use Rattle.std.specs.Prelude.{Option, Some, None, IfSome, Contains, slice_index_or}
 use Rattle.std.proofs.Math.ListN.{set, replicate}
 use Rattle.std.proofs.lemmas.Bool.{cases_eq}
 use Rattle.std.proofs.lemmas.List.{take_more, get_or_default, get_or-set_same, get_or-set_other, length-set, get_or-replicate, length-replicate}
@@ -9,11 +9,11 @@ use Rattle.base_kit.proofs.Elements.{contains_in, in_contains, in_left, in_right
 use Rattle.base_kit.proofs.SetFacts.{same_number}
 use Rattle.srp_core.specs.declared.route.Route.{Route}
 use Rattle.srp_core.specs.Problem.{Problem, count}
-use Rattle.spare_links.specs.declared.standing.Standing.TheVariants.{Apart, Same, Tied}
+use Rattle.spare_links.specs.declared.standing.Standing.TheVariants.{Same, Tied}
 use Rattle.spare_links.specs.declared.ways.Ways.{Ways}
 use Rattle.spare_links.specs.declared.ways.Ways.TheVariants.{Nowhere, OneLink, MoreLinks}
 use Rattle.spare_links.specs.Standing.{standing_over}
-use Rattle.spare_links.specs.Ways.{with_way, GoesOver, AreAllLinks, AreWays}
+use Rattle.spare_links.specs.Ways.{with_way, GoesOver, TiesOver, TiesAt, AreAllLinks, AreWays, AreTies}
 
 -- ---- one link more
 
@@ -69,7 +69,13 @@ module _ (P : Problem) (L : List (Option Route)) where
     total = length-replicate (count P) Nowhere;
     each = λ u lt. let Q : Ways → Type 0 = λ ways. AreAllLinks (GoesOver P L [] u) ways in
         subst Q (sym (get_or-replicate (count P) u Nowhere Nowhere lt)) (λ link g. in_contains [] g.edge g.edge_in);
-    untied = λ edge h. absurd (in_contains [] edge h);
+  }
+
+  pub no_ties_yet : AreTies P L [] Nowhere None
+  no_ties_yet = record {
+    links = λ link t. in_contains [] t.edge t.edge_in;
+    none = λ is edge h. absurd (in_contains [] edge h);
+    some = tt;
   }
 
   module _ (edges : List Edge) (edge : Edge) where
@@ -127,11 +133,10 @@ module _ (P : Problem) (L : List (Option Route)) where
       | inr new ↦ elim new [ inl is ↦ subst (λ (x : Edge). standing_over P L x ≢ Tied) is last | inr none ↦ absurd none ]
     ]
 
-    apart_more : (ways : List Ways) → standing_over P L edge ≡ Apart → AreWays P L edges ways → AreWays P L (edges ++ edge ∷ []) ways
-    apart_more ways apart are = record {
+    aside_more : (ways : List Ways) → standing_over P L edge ≢ Same → AreWays P L edges ways → AreWays P L (edges ++ edge ∷ []) ways
+    aside_more ways other are = record {
       total = are.total;
-      each = λ u lt. aside u (slice_index_or ways u Nowhere) (λ both. let same = both.1 in cc) (are.each u lt);
-      untied = untied_more are.untied (λ tied. cc);
+      each = λ u lt. aside u (slice_index_or ways u Nowhere) (λ both. other both.1) (are.each u lt);
     }
 
     same_more : (ways : List Ways) → edge.importer < count P → standing_over P L edge ≡ Same → AreWays P L edges ways →
@@ -147,7 +152,6 @@ module _ (P : Problem) (L : List (Option Route)) where
             subst Q (sym (get_or-set_other ways edge.importer u next Nowhere other))
             (aside u (slice_index_or ways u Nowhere) (λ both. other (sym both.0)) (are.each u lt)))
       ];
-      untied = untied_more are.untied (λ tied. cc);
     }
       where
         next : Ways
@@ -156,10 +160,80 @@ module _ (P : Problem) (L : List (Option Route)) where
         within : edge.importer < length ways
         within = let total = are.total in omega arith
 
+    -- ---- ties
+
+    more_tie : (link : ℕ) → TiesOver P L edges link → TiesOver P L (edges ++ edge ∷ []) link
+    more_tie link t = record {
+      edge = t.edge;
+      edge_in = contains_in _ t.edge (in_left edges (edge ∷ []) t.edge (in_contains edges t.edge t.edge_in));
+      of_link = t.of_link;
+      tied = t.tied;
+    }
+
+    more_tied_at : (tied : Option ℕ) → IfSome tied (TiesAt P L edges) → IfSome tied (TiesAt P L (edges ++ edge ∷ []))
+    more_tied_at None at = tt
+    more_tied_at (Some u) at = record {
+      edge = at.edge;
+      edge_in = contains_in _ at.edge (in_left edges (edge ∷ []) at.edge (in_contains edges at.edge at.edge_in));
+      importer = at.importer;
+      tied = at.tied;
+    }
+
+    old_or_last_tie : (link : ℕ) → TiesOver P L (edges ++ edge ∷ []) link → TiesOver P L edges link ⊎ ((edge.link ≡ link) × (standing_over P L edge ≡ Tied))
+    old_or_last_tie link t = elim (append_in edges (edge ∷ []) t.edge (in_contains _ t.edge t.edge_in)) [
+      | inl before ↦ inl (record { edge = t.edge; edge_in = contains_in edges t.edge before; of_link = t.of_link; tied = t.tied })
+      | inr last ↦ elim last [
+        | inl is ↦ inr (ap (λ (e : Edge). e.link) is ∙ t.of_link, ap (standing_over P L) is ∙ t.tied)
+        | inr none ↦ absurd none
+      ]
+    ]
+
+    ties_stay : (ties : Ways) (tied : Option ℕ) → standing_over P L edge ≢ Tied → AreTies P L edges ties tied → AreTies P L (edges ++ edge ∷ []) ties tied
+    ties_stay ties tied other are = record {
+      links = said_of_same (TiesOver P L edges) (TiesOver P L (edges ++ edge ∷ [])) (λ n. more_tie n) (λ n. back n) ties are.links;
+      none = λ is. untied_more (are.none is) other;
+      some = more_tied_at tied are.some;
+    }
+      where
+        back : (n : ℕ) → TiesOver P L (edges ++ edge ∷ []) n → TiesOver P L edges n
+        back n t = elim (old_or_last_tie n t) [ inl before ↦ before | inr last ↦ absurd (other last.1) ]
+
+    ties_more : (ties : Ways) (tied : Option ℕ) → standing_over P L edge ≡ Tied → AreTies P L edges ties tied →
+        AreTies P L (edges ++ edge ∷ []) (with_way ties edge.link) (Some edge.importer)
+    ties_more ties tied is are = record {
+      links = said_of_same (OneMore (TiesOver P L edges) edge.link) (TiesOver P L (edges ++ edge ∷ [])) (λ n. there n) (λ n. back n) (with_way ties edge.link)
+          (one_more (TiesOver P L edges) edge.link ties are.links);
+      none = λ some. absurd cc;
+      some = record { edge = edge; edge_in = last_in; importer = refl; tied = is };
+    }
+      where
+        last_in : Contains (edges ++ edge ∷ []) edge
+        last_in = contains_in _ edge (in_right edges (edge ∷ []) edge (inl refl))
+
+        there : (n : ℕ) → TiesOver P L edges n ⊎ (n ≡ edge.link) → TiesOver P L (edges ++ edge ∷ []) n
+        there n (inl before) = more_tie n before
+        there n (inr of) = record { edge = edge; edge_in = last_in; of_link = sym of; tied = is }
+
+        back : (n : ℕ) → TiesOver P L (edges ++ edge ∷ []) n → TiesOver P L edges n ⊎ (n ≡ edge.link)
+        back n t = elim (old_or_last_tie n t) [ inl before ↦ inl before | inr last ↦ inr (sym last.0) ]
+
   -- the edge at the next place of a list
   module _ (edges : List Edge) (i : ℕ) (d : Edge) (inside : i < length edges) where
-    pub apart_next : (ways : List Ways) → standing_over P L (get_or edges i d) ≡ Apart → AreWays P L (take i edges) ways → AreWays P L (take (i + 1) edges) ways
-    apart_next ways apart are = subst (λ l. AreWays P L l ways) (sym (take_more edges i d inside)) (apart_more (take i edges) (get_or edges i d) ways apart are)
+    pub aside_next : (ways : List Ways) → standing_over P L (get_or edges i d) ≢ Same → AreWays P L (take i edges) ways → AreWays P L (take (i + 1) edges) ways
+    aside_next ways other are = subst (λ l. AreWays P L l ways) (sym (take_more edges i d inside)) (aside_more (take i edges) (get_or edges i d) ways other are)
+
+    pub stay_next : (ties : Ways) (tied : Option ℕ) → standing_over P L (get_or edges i d) ≢ Tied → AreTies P L (take i edges) ties tied →
+        AreTies P L (take (i + 1) edges) ties tied
+    stay_next ties tied other are =
+        subst (λ l. AreTies P L l ties tied) (sym (take_more edges i d inside)) (ties_stay (take i edges) (get_or edges i d) ties tied other are)
+
+    pub tied_next : (ties next : Ways) (tied now : Option ℕ) → standing_over P L (get_or edges i d) ≡ Tied → next ≡ with_way ties (get_or edges i d).link →
+        now ≡ Some (get_or edges i d).importer → AreTies P L (take i edges) ties tied → AreTies P L (take (i + 1) edges) next now
+    tied_next ties next tied now is links_are now_is are =
+        let edge = get_or edges i d in
+        subst (λ l. AreTies P L l next now) (sym (take_more edges i d inside))
+        (subst (λ n. AreTies P L (take i edges ++ edge ∷ []) next n) (sym now_is)
+        (subst (λ w. AreTies P L (take i edges ++ edge ∷ []) w (Some edge.importer)) (sym links_are) (ties_more (take i edges) edge ties tied is are)))
 
     pub same_next : (ways : List Ways) (read next : Ways) → (get_or edges i d).importer < count P → standing_over P L (get_or edges i d) ≡ Same →
         read ≡ get_or ways (get_or edges i d).importer read → next ≡ with_way read (get_or edges i d).link → AreWays P L (take i edges) ways →
@@ -171,6 +245,9 @@ module _ (P : Problem) (L : List (Option Route)) where
         subst (λ l. AreWays P L l (set ways edge.importer next)) (sym (take_more edges i d inside))
         (subst (λ w. AreWays P L (take i edges ++ edge ∷ []) (set ways edge.importer w)) (ap (λ r. with_way r edge.link) (sym same_read) ∙ sym is)
         (same_more (take i edges) edge ways importer same are))
+
+  pub all_ties : (edges : List Edge) (i : ℕ) (ties : Ways) (tied : Option ℕ) → length edges ≤ i → AreTies P L (take i edges) ties tied → AreTies P L edges ties tied
+  all_ties edges i ties tied past are = subst (λ l. AreTies P L l ties tied) (take_all i edges past) are
 
   pub all_edges : (edges : List Edge) (i : ℕ) (ways : List Ways) → length edges ≤ i → AreWays P L (take i edges) ways → AreWays P L edges ways
   all_edges edges i ways past are = subst (λ l. AreWays P L l ways) (take_all i edges past) are

@@ -1,6 +1,6 @@
--- Links that are spare by the links over which routers forward.
+-- Links that are spare by the links over which routers forward and routes tie.
 use Rattle.std.proofs.Common.{◌≡◌, ◌≢◌, ℕ, zero, suc, ◌<◌, Bool, true, false, cond, not, ◌&&◌, ◌||◌, List, [], ◌∷◌, length, nat_eq, Option, Some, None, refl, sym, ◌∙◌, ap, subst, inl, inr, arith}
-use Rattle.std.specs.Prelude.{Contains, bytes_eq, slice_index_or}
+use Rattle.std.specs.Prelude.{Contains, IfSome, bytes_eq, slice_index_or}
 use Rattle.std.specs.List.{list_any}
 use Rattle.std.proofs.lemmas.Bool.{cases_eq, and_parts, eqb-true, eq-eqb, ne_eqb}
 use Rattle.std.proofs.lemmas.Slice.Eq.{bytes_eq-Decides}
@@ -10,7 +10,7 @@ use Rattle.route_run.specs.Rounds.{HasNoLone}
 use Rattle.srp_core.specs.declared.route.Route.{Route}
 use Rattle.srp_core.specs.declared.route.Route.TheVariants.{Bgp, Ospf}
 use Rattle.srp_core.specs.Candidates.{over}
-use Rattle.srp_core.specs.Problem.{Problem, initial, key_of, IsProblem}
+use Rattle.srp_core.specs.Problem.{Problem, count, initial, key_of, IsProblem}
 use Rattle.srp_core.specs.Routes.{preference_of, size_of, path_of, comms_of, chosen, IsRouteOf}
 use Rattle.srp_core.specs.Stability.{label, IsCandidateOver, IsCandidate, of_init, of_edge, IsStable}
 use Rattle.srp_core.specs.Without.{is_left}
@@ -22,10 +22,10 @@ use Rattle.asking_laws.proofs.PlainKeys.{plain, keyed_plain, weak_parts}
 use Rattle.spare_links.specs.declared.standing.Standing.TheVariants.{Apart, Same, Tied}
 use Rattle.spare_links.specs.declared.ways.Ways.{Ways}
 use Rattle.spare_links.specs.declared.ways.Ways.TheVariants.{Nowhere, OneLink, MoreLinks}
-use Rattle.spare_links.specs.Spare.{link_down, AreSpare}
+use Rattle.spare_links.specs.Spare.{link_down, TiesBeside, AreSpare}
 use Rattle.spare_links.specs.Standing.{standing_of, standing_to, standing_over}
 use Rattle.spare_links.proofs.Left.{cases_protocol}
-use Rattle.spare_links.specs.Ways.{GoesOver, AreAllLinks, AreWays}
+use Rattle.spare_links.specs.Ways.{GoesOver, TiesOver, TiesAt, AreAllLinks, AreWays, AreTies}
 
 -- ---- how two routes stand
 
@@ -98,29 +98,30 @@ module _ (P : Problem) (good : IsProblem P) (none : HasNoLone P) (L : List (Opti
 
   -- ---- no tie
 
-  -- a label beside an initial route has no communities
-  label_bare : (u : ℕ) (r c : Route) → label L u ≡ Some r → initial P u ≡ Some c → IsCandidate P L u r → comms_of r ≡ []
-  label_bare u r c lab e (of_init e') = good.starts.bare u r e'
-  label_bare u r c lab e (of_edge edge i imp over) = elim (cases_protocol P.protocol) [
-    | inl bgp ↦ absurd (let silent = subst (λ (v : ℕ). initial P v ≡ None) imp (good.starts.unoriginated bgp edge i) in cc)
-    | inr ospf ↦ ospf_bare r (subst (λ p. IsRouteOf p r) ospf (st.fitting.routes u r lab))
-  ]
+  module _ (untied : (edge : Edge) → Contains P.edges edge → standing_over P L edge ≢ Tied) where
+    -- a label beside an initial route has no communities
+    label_bare : (u : ℕ) (r c : Route) → label L u ≡ Some r → initial P u ≡ Some c → IsCandidate P L u r → comms_of r ≡ []
+    label_bare u r c lab e (of_init e') = good.starts.bare u r e'
+    label_bare u r c lab e (of_edge edge i imp over) = elim (cases_protocol P.protocol) [
+      | inl bgp ↦ absurd (let silent = subst (λ (v : ℕ). initial P v ≡ None) imp (good.starts.unoriginated bgp edge i) in cc)
+      | inr ospf ↦ ospf_bare r (subst (λ p. IsRouteOf p r) ospf (st.fitting.routes u r lab))
+    ]
 
-  same_comms : (u : ℕ) (r c : Route) → label L u ≡ Some r → IsCandidate P L u c → preference_of c ≡ preference_of r → size_of c ≡ size_of r → comms_of c ≡ comms_of r
-  same_comms u r c lab (of_init e) preference size =
-      good.starts.bare u c e ∙ sym (label_bare u r c lab e (st.held u r (label_inside P good none L st u r lab) lab))
-  same_comms u r c lab (of_edge edge i imp cand) preference size =
-      let there : label L edge.importer ≡ Some r = subst (λ v. label L v ≡ Some r) (sym imp) lab in
-      let stands : standing_over P L edge ≡ standing_of c r =
-      ap (λ o. standing_to o (label L edge.importer)) (candidate_over P L edge c cand) ∙ ap (standing_to (Some c)) there in
-      not_tied c r preference size (subst (λ s. s ≢ Tied) stands (are.untied edge i))
+    same_comms : (u : ℕ) (r c : Route) → label L u ≡ Some r → IsCandidate P L u c → preference_of c ≡ preference_of r → size_of c ≡ size_of r → comms_of c ≡ comms_of r
+    same_comms u r c lab (of_init e) preference size =
+        good.starts.bare u c e ∙ sym (label_bare u r c lab e (st.held u r (label_inside P good none L st u r lab) lab))
+    same_comms u r c lab (of_edge edge i imp cand) preference size =
+        let there : label L edge.importer ≡ Some r = subst (λ v. label L v ≡ Some r) (sym imp) lab in
+        let stands : standing_over P L edge ≡ standing_of c r =
+        ap (λ o. standing_to o (label L edge.importer)) (candidate_over P L edge c cand) ∙ ap (standing_to (Some c)) there in
+        not_tied c r preference size (subst (λ s. s ≢ Tied) stands (untied edge i))
 
-  no_tie : HasNoTie P L
-  no_tie = record {
-    same = λ u r c lab cand weak.
-        let parts = weak_parts (key_of P c) (key_of P r) weak in
-        keyed c r (record { preference = parts.0; size = parts.1; comms = same_comms u r c lab cand parts.0 parts.1 });
-  }
+    no_tie : HasNoTie P L
+    no_tie = record {
+      same = λ u r c lab cand weak.
+          let parts = weak_parts (key_of P c) (key_of P r) weak in
+          keyed c r (record { preference = parts.0; size = parts.1; comms = same_comms u r c lab cand parts.0 parts.1 });
+    }
 
   -- ---- elsewhere
 
@@ -182,6 +183,33 @@ module _ (P : Problem) (good : IsProblem P) (none : HasNoLone P) (L : List (Opti
           (subst (GoesOver P L P.edges edge.importer) (of_link edge lost) (goes_over edge i f)) refl (are.each edge.importer inside);
     }
 
-  pub are_spare : (marks : List Bool) → ((link : ℕ) → slice_index_or marks link false ≡ true → (u : ℕ) → u < length ways → slice_index_or ways u Nowhere ≢ OneLink link) →
-      AreSpare P L marks
-  are_spare marks only = record { untied = no_tie; spare = λ link marked. loses link (only link marked) }
+  -- ---- ties beside a link
+
+  module _ (ties : Ways) (tied : Option ℕ) (tying : AreTies P L P.edges ties tied) where
+    beside : (link other : ℕ) → TiesOver P L P.edges other → other ≢ link → TiesBeside P L link
+    beside link other t differ = record { edge = t.edge; edge_in = t.edge_in; other = λ e. differ (sym t.of_link ∙ e); tied = t.tied }
+
+    tied_beside : (link u : ℕ) (w : Ways) → AreAllLinks (TiesOver P L P.edges) w → w ≢ OneLink link → TiesAt P L P.edges u → TiesBeside P L link
+    tied_beside link u Nowhere all other at = absurd (all at.edge.link (record { edge = at.edge; edge_in = at.edge_in; of_link = refl; tied = at.tied }))
+    tied_beside link u (OneLink one) all other at = beside link one all.it_goes (λ e. other (ap OneLink e))
+    tied_beside link u MoreLinks all other at = elim (cases_eq all.first link) [
+      | inl same ↦ beside link all.second all.second_goes (λ e. all.differ (same ∙ sym e))
+      | inr differ ↦ beside link all.first all.first_goes differ
+    ]
+
+    where_tied : (t : Option ℕ) → IfSome t (TiesAt P L P.edges) → IfSome t (λ u. u < count P)
+    where_tied None at = tt
+    where_tied (Some u) at = subst (λ v. v < count P) at.importer (good.edges.inside at.edge at.edge_in).importer_in
+
+    some_beside : (t : Option ℕ) → IfSome t (TiesAt P L P.edges) → t ≢ None → (link : ℕ) → ties ≢ OneLink link → TiesBeside P L link
+    some_beside None at some link other = absurd (some refl)
+    some_beside (Some u) at some link other = tied_beside link u ties tying.links other at
+
+    pub are_spare : (marks : List Bool) → ((link : ℕ) → slice_index_or marks link false ≡ true → (u : ℕ) → u < length ways → slice_index_or ways u Nowhere ≢ OneLink link) →
+        ((link : ℕ) → slice_index_or marks link false ≡ true → ties ≢ OneLink link) → AreSpare P L marks tied
+    are_spare marks only apart = record {
+      spare = λ link marked. loses link (only link marked);
+      untied = λ none_tied. no_tie (tying.none none_tied);
+      router = where_tied tied tying.some;
+      beside = λ some link marked. some_beside tied tying.some some link (apart link marked);
+    }

@@ -27,18 +27,18 @@ kept P Q asked No keeps is_kept is = let v = keeps.no is_kept is in record { lab
 kept P Q asked NoSolution keeps is_kept is = absurd is_kept
 
 pub stays : NoneBecomesLone → OneIsAll → NoTieHolds → SpareLinksBringNoTie → SpareLinksKeepAnswers → SpareLinksKeepVerdicts
-stays becomes one unbroken bring keep P L marks link asked verdict are marked is_asked is_kept is =
+stays becomes one unbroken bring keep P L marks tied link asked verdict are marked is_asked is_kept is =
     let loses = are.spare link marked in
     let other = left_over P loses.rules loses.none_lone link in
     let without = is_without P loses.rules loses.none_lone link in
     let found = kept P other asked verdict (keep P other (link_down link) L asked loses without is_asked) is_kept is in
     let none = becomes P other (link_down link) loses.rules loses.none_lone without in
-    let untied = bring P other (link_down link) L found.labels loses without found.stable are.untied in
     record {
       other = other;
       without = without;
       is = found.is;
       solution = found.labels;
       all = one other found.labels without.rules none found.stable;
-      holds = unbroken other found.labels without.rules none found.stable untied;
+      holds = λ none_tied. unbroken other found.labels without.rules none found.stable
+          (bring P other (link_down link) L found.labels loses without found.stable (are.untied none_tied));
     }

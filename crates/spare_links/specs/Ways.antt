@@ -1,5 +1,5 @@
--- The links over which routers forward.
-use Rattle.std.specs.Prelude.{◌≡◌, ◌≢◌, ℕ, ◌<◌, List, Option, length, Contains, nat_eq, slice_index_or, if◌then◌else◌}
+-- The links over which routers forward, and those over which routes tie.
+use Rattle.std.specs.Prelude.{◌≡◌, ◌≢◌, ℕ, ◌<◌, List, Option, None, IfSome, length, Contains, nat_eq, slice_index_or, if◌then◌else◌}
 use Rattle.base_kit.specs.declared.act_graph.Edge.{Edge}
 use Rattle.srp_core.specs.declared.route.Route.{Route}
 use Rattle.srp_core.specs.Problem.{Problem, count}
@@ -41,9 +41,27 @@ AreAllLinks goes Nowhere = (link : ℕ) → ¬ goes link
 AreAllLinks goes (OneLink link) = HasOneLink goes link
 AreAllLinks goes MoreLinks = HasTwoLinks goes
 
--- for each router, the links over which it forwards by these edges; and over none of these a route ties with the
--- label of its router by other communities
+-- one of these edges, of this link, gives its importer a route that ties with the label by other communities
+pub record TiesOver (problem : Problem) (labels : List (Option Route)) (edges : List Edge) (link : ℕ) : Type 0 where
+  pub edge : Edge
+  pub edge_in : Contains edges edge
+  pub of_link : edge.link ≡ link
+  pub tied : standing_over problem labels edge ≡ Tied
+
+-- one of these edges gives the router a route that ties so
+pub record TiesAt (problem : Problem) (labels : List (Option Route)) (edges : List Edge) (router : ℕ) : Type 0 where
+  pub edge : Edge
+  pub edge_in : Contains edges edge
+  pub importer : edge.importer ≡ router
+  pub tied : standing_over problem labels edge ≡ Tied
+
+-- for each router, the links over which it forwards by these edges
 pub record AreWays (problem : Problem) (labels : List (Option Route)) (edges : List Edge) (ways : List Ways) : Type 0 where
   pub total : length ways ≡ count problem
   pub each : (u : ℕ) → u < count problem → AreAllLinks (GoesOver problem labels edges u) (slice_index_or ways u Nowhere)
-  pub untied : (edge : Edge) → Contains edges edge → standing_over problem labels edge ≢ Tied
+
+-- the links over which routes tie by these edges, and a router at which they do, if they tie at all
+pub record AreTies (problem : Problem) (labels : List (Option Route)) (edges : List Edge) (ties : Ways) (tied : Option ℕ) : Type 0 where
+  pub links : AreAllLinks (TiesOver problem labels edges) ties
+  pub none : tied ≡ None → (edge : Edge) → Contains edges edge → standing_over problem labels edge ≢ Tied
+  pub some : IfSome tied (TiesAt problem labels edges)

@@ -6,10 +6,17 @@ ghost use Rattle.srp_core.specs.Stability.{IsStable};
 ghost use Rattle.spare_links.specs.Spare.{AreSpare};
 ghost use Rattle.spare_links.specs.declared.ways.Ways.TheVariants.{OneLink, Nowhere};
 
-use crate::ways::{Ways, ways_of};
+use crate::ways::{Ways, forwarding_of};
 use base_kit::NoMemory;
 use srp_core::{Labels, Srp};
 use std::alloc::Global;
+
+/// Marks of links that are spare, and whether routes of different communities tie: then a router at which they do.
+#[derive(Drop)]
+pub struct SpareLinks {
+    pub marks: Vec<bool>,
+    pub tied: Option<u32>,
+}
 
 fn has_mark(marks: &[bool]) -> bool
     ensures { result ≡ list_any (λ mark. mark) marks.now }
@@ -17,24 +24,34 @@ fn has_mark(marks: &[bool]) -> bool
     marks.iter().any(|mark| *mark)
 }
 
-// Marks the first so many links that are the only way of no router.
-fn marks_of(alloc: Global, ways: &[Ways], links: usize) -> Result<Vec<bool>, NoMemory>
-    ensures { IfOk result (λ marks. (link : ℕ) → slice_index_or marks.items link false ≡ true → (u : ℕ) → u < length ways.now → slice_index_or ways.now u Nowhere ≢ OneLink link) }
+// Takes the mark from a link that is the only one of these.
+fn unmark(marks: &mut Vec<bool>, ways: Ways)
+    ensures { (link : ℕ) → slice_index_or marks.new.items link false ≡ true → (slice_index_or marks.old.items link false ≡ true) × (ways ≢ OneLink link) }
+{
+    if let Ways::OneLink(link) = ways {
+        let link = link as usize;
+        if link < marks.len() {
+            marks[link] = false;
+        }
+    }
+}
+
+// Marks the first so many links that are the only way of no router, and not the only link over which routes tie.
+fn marks_of(alloc: Global, ways: &[Ways], ties: Ways, links: usize) -> Result<Vec<bool>, NoMemory>
+    ensures ways { IfOk result (λ marks. (link : ℕ) → slice_index_or marks.items link false ≡ true → (u : ℕ) → u < length ways.now → slice_index_or ways.now u Nowhere ≢ OneLink link) }
+    ensures ties { IfOk result (λ marks. (link : ℕ) → slice_index_or marks.items link false ≡ true → ties ≢ OneLink link) }
 {
     let mut marks = vec![in alloc; true; links]?;
+    unmark(&mut marks, ties);
     for way in ways {
-        if let Ways::OneLink(link) = way {
-            let link = *link as usize;
-            if link < links {
-                marks[link] = false;
-            }
-        }
+        unmark(&mut marks, *way);
     }
     Ok(marks)
 }
 
 /// Marks the first so many links that are spare under stable labels: each router that forwards over one forwards over
-/// another link too. Nothing where a router is lone, or where routes of different communities tie.
+/// another link too. Where routes of different communities tie, they do so without each marked link too. Nothing where
+/// a router is lone.
 ///
 /// # Errors
 /// Out of memory.
@@ -43,19 +60,18 @@ pub fn spare_links(
     srp: &Srp,
     labels: &Labels,
     links: usize,
-) -> Result<Option<Vec<bool>>, NoMemory>
+) -> Result<Option<SpareLinks>, NoMemory>
     requires { IsStable srp.now labels.now }
-    ensures { IfOk result (λ found. IfSome found (λ marks. AreSpare srp.now labels.now marks.items)) }
+    ensures { IfOk result (λ found. IfSome found (λ spare. AreSpare srp.now labels.now spare.marks.items spare.tied)) }
 {
     let _known = srp.count();
     if has_mark(srp.lone()) {
         return Ok(None);
     }
-    match ways_of(alloc, srp, labels)? {
-        None => Ok(None),
-        Some(ways) => {
-            let marks = marks_of(alloc, &ways, links)?;
-            Ok(Some(marks))
-        }
-    }
+    let found = forwarding_of(alloc, srp, labels)?;
+    let marks = marks_of(alloc, &found.ways, found.ties, links)?;
+    Ok(Some(SpareLinks {
+        marks,
+        tied: found.tied,
+    }))
 }

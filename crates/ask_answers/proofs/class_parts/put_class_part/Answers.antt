@@ -2,6 +2,7 @@ use Rattle.std.proofs.Common.{◌≡◌, ◌∙◌, ℕ, List, ap, arith, sym, s
 use Rattle.cfg_ast.specs.declared.network.Network.{Network}
 use Rattle.cfg_ast.specs.meaning.Topology.{links_of}
 use Rattle.solution_answers.specs.Writing.{Writes}
+use Rattle.srp_core.specs.Without.{marked_down, IsWithout}
 use Rattle.ask_names.specs.Marks.{AreMarksIn}
 use Rattle.ask_names.specs.Networks.{names_of}
 use Rattle.ask_classes.specs.Tasks.{IsTaskPart}
@@ -10,8 +11,8 @@ use Rattle.ask_answers.proofs.Marks.{routers_marked, links_marked}
 use Rattle.ask_answers.proofs.Parts.{class_written}
 use Rattle.ask_answers.proofs.class_parts.put_class_part.Goals as goal
 
-pub without-requires : goal.without-requires
-without-requires c = c.requires.known.2.serves
+pub left_of-requires : goal.left_of-requires
+left_of-requires c = c.requires.known.2.serves
 
 pub put_class-requires-clause-scene : goal.put_class-requires-clause-scene
 put_class-requires-clause-scene c =
@@ -33,7 +34,7 @@ put_class-requires-clause-scene c =
       each_link = ap length (c.as_slice-links_down.ensures.value ∙ c.requires.plan.links) ∙ links_marked (names_of n) (links_of n) request.down
           ∙ ap length (sym links);
       names = (known.2.built.of p.0 p.1).names ∙ ap names_of (sym same);
-      left = c.in_ok-left.ensures;
+      left = subst (IsWithout c.args.known.now.whole (marked_down c.as_slice-routers_down.result.now c.as_slice-links_down.result.now)) (sym c.made_or-left.ensures) c.in_ok-made.ensures;
       serves = known.2.serves;
     }
 
@@ -50,13 +51,13 @@ returns c = λ class is.
     let request = c.args.request.now in
     let manner = c.args.plan.now.manner in
     let known = c.args.known.now in
-    let left = c.in_ok-left.left in
+    let left = c.made_or-left.result.now in
     let routers = c.as_slice-routers_down.result.now in
     let links = c.as_slice-links_down.result.now in
     let old = c.args.bytes.now.items in
     let new = c.put_class.new.bytes.items in
     class_written n request manner c.args.number class known left routers links old new c.in_ok-all.all
     (c.as_slice-routers_down.ensures.value ∙ c.requires.plan.routers) (c.as_slice-links_down.ensures.value ∙ c.requires.plan.links) is
-    c.in_ok-left.ensures
+    (subst (IsWithout known.whole (marked_down routers links)) (sym c.made_or-left.ensures) c.in_ok-made.ensures)
     (subst (λ (m : Network). Writes (IsTaskPart manner m routers links c.args.number known.whole left request.task) old new c.in_ok-all.all)
     c.network-network.ensures.same c.in_ok-all.ensures)
