@@ -8,12 +8,9 @@ use Rattle.base_kit.proofs.Elements.{In, contains_in, in_range}
 use Rattle.cfg_ast.specs.declared.classes.DestClass.{DestClass}
 use Rattle.cfg_ast.specs.declared.network.Network.{Network}
 use Rattle.cfg_ast.specs.meaning.Classes.{classes_of}
-use Rattle.class_laws.specs.Laws.{BuiltProblemIsOne}
-use Rattle.compress_laws.specs.Laws.{TextHasProblemOfGroups}
 use Rattle.config_emit.specs.Plan.{small}
 use Rattle.group_report.specs.GroupLines.{group_lines}
 use Rattle.quotient_laws.specs.Laws.{IsDiscrete, QuotientIsSmallest}
-use Rattle.reading_laws.specs.WellRead.{WhatIsReadIsWell}
 use Rattle.srp_core.specs.Problem.{count}
 use Rattle.srp_core.specs.Quotient.{IsQuotient}
 use Rattle.srp_core.proofs.Alike.{same_coarsest}
@@ -29,8 +26,9 @@ use Rattle.workflow_laws.specs.Commands as command
 use Rattle.workflow_laws.specs.Again.{PutsEachAlone, CompressedAgain}
 use Rattle.workflow_laws.specs.Words.{groups}
 use Rattle.workflow_laws.proofs.Answers.{answer_of}
-use Rattle.workflow_laws.proofs.Kept.{has_class, short_small, IsSmall, small_network}
+use Rattle.workflow_laws.proofs.Kept.{short_small, IsSmall, SmallLaws, small_network}
 use Rattle.workflow_laws.proofs.Named.{names_groups}
+use Rattle.workflow_laws.proofs.SomeClass.{has_class}
 
 -- ---- a partition that puts no two routers together
 
@@ -102,12 +100,12 @@ again is_quotient smallest n m class lower bytes has s prefixes o x =
     let number = is_count (count R) a.lines.count a.groups total single_here a.lines.numbered in
     record { problem = R; of_class = a.are.of_class; told = x.written ∙ ap done (a.lines.lines ∙ (λ j. group_lines R (range j) (number j))) }
 
-pub compressed_again : WhatIsReadIsWell → BuiltProblemIsOne → TextHasProblemOfGroups → QuotientIsQuotient → QuotientIsSmallest → CompressedAgain
-compressed_again well built has_problem is_quotient smallest contents F G N K c o x =
+pub compressed_again : SmallLaws → QuotientIsSmallest → CompressedAgain
+compressed_again laws smallest contents F G N K c o x =
     let n = c.of_large.network in
     let m = c.of_small.network in
-    let s = small_network well built has_problem contents F G N K c in
-    let answer = answer_of (groups G K) contents (command.Groups K) refl (names_groups G K (short_small well contents F G N K c)) c.small c.kept o m
+    let s = small_network laws contents F G N K c in
+    let answer = answer_of (groups G K) contents (command.Groups K) refl (names_groups G K (short_small laws.well contents F G N K c)) c.small c.kept o m
     c.of_small.reads s.short x in
-    again is_quotient smallest n m c.of_large.class c.of_small.class c.small (has_class n N c.of_large.class c.of_large.class_is) s c.prefixes o
+    again laws.is_quotient smallest n m c.of_large.class c.of_small.class c.small (has_class n N c.of_large.class c.of_large.class_is) s c.prefixes o
     (subst (λ (found : Option DestClass). IsOfClass found K (IsGroupsOf m) o) c.of_small.class_is answer)

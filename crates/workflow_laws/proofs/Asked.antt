@@ -2,23 +2,23 @@
 use Rattle.std.proofs.Common.{◌≡◌, sym, ◌∙◌, subst}
 use Rattle.cfg_ast.specs.declared.network.Network.{Network}
 use Rattle.compress_laws.specs.Compressed.{Compresses}
-use Rattle.compress_laws.specs.Laws.{PlanCompresses}
+use Rattle.compress_laws.specs.Laws.{BuiltFits, FittingPlanCompresses}
 use Rattle.quotient_laws.specs.Questions.{GroupQuestionCarries, IsQuotiented, Picture, PicturesAgree, QuestionsCarry}
 use Rattle.reading_laws.specs.WellRead.{WhatIsReadIsWell}
 use Rattle.srp_core.specs.ProblemOf.{IsProblemOf}
 use Rattle.answer_kit.proofs.OneClass.{some_prefix}
-use Rattle.carried_laws.proofs.Carried.{plan_text}
 use Rattle.workflow_laws.specs.Questions.{EachQuestionCarries, SmallAnswersForLarge}
-use Rattle.workflow_laws.proofs.Kept.{has_class, done_compress, one_network}
+use Rattle.workflow_laws.proofs.Kept.{fitting_text, one_network}
+use Rattle.workflow_laws.proofs.SomeClass.{has_class}
 
-pub small_answers_for_large : WhatIsReadIsWell → PlanCompresses → PicturesAgree → QuestionsCarry → SmallAnswersForLarge
-small_answers_for_large well compresses agree carry contents F G N K c =
+pub small_answers_for_large : WhatIsReadIsWell → BuiltFits → FittingPlanCompresses → PicturesAgree → QuestionsCarry → SmallAnswersForLarge
+small_answers_for_large well fits compresses agree carry contents F G N K c =
     let n = c.of_large.network in
     let class = c.of_large.class in
     let m = c.of_small.network in
     let read = well c.large n c.of_large.reads in
     let has = has_class n N class c.of_large.class_is in
-    let t = plan_text n N class c.small c.of_large.class_is (done_compress well contents F G N K c).answer in
+    let t = fitting_text well contents F G N K c fits in
     let k : Compresses n class c.small =
     subst (Compresses n class) (sym t.text) (compresses n class t.plan ∣ (c.large, read.given) ∣₁ read.faultless has t.is t.apart t.short) in
     let same : k.read ≡ m = one_network k.read m (sym k.reads ∙ c.of_small.reads) in

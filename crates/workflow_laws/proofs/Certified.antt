@@ -20,10 +20,10 @@ use Rattle.workflow_laws.specs.Commands as command
 use Rattle.workflow_laws.specs.Certificates.{named_groups, names_in, PrintsGroups, WhatIsCertifiedIsVerified, WhatIsVerifiedNamesTheGroups}
 use Rattle.workflow_laws.specs.Words.{certify, groups, verify}
 use Rattle.workflow_laws.proofs.Answers.{answer_of, done_reading}
-use Rattle.workflow_laws.proofs.Kept.{has_class}
 use Rattle.workflow_laws.proofs.Named.{names_certify, names_groups, names_verify}
 use Rattle.workflow_laws.proofs.NamedGroups.{names_its_groups}
 use Rattle.workflow_laws.proofs.OneGroups.{listed_alike}
+use Rattle.workflow_laws.proofs.SomeClass.{has_class}
 
 pub what_is_certified_is_verified : WhatIsReadIsWell → VerifiesWhatIsCertified → VerifyAnswerIsOne → WhatIsCertifiedIsVerified
 what_is_certified_is_verified well verifies one contents F T text written N small holds x kept verified y =

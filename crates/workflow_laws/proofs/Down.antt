@@ -19,8 +19,8 @@ use Rattle.workflow_laws.specs.CarriedDown.{CheckIsFold}
 use Rattle.workflow_laws.specs.Setting.{verdict_told}
 use Rattle.workflow_laws.specs.Words.{check, fold}
 use Rattle.workflow_laws.proofs.Answers.{of_text}
-use Rattle.workflow_laws.proofs.Kept.{has_class}
 use Rattle.workflow_laws.proofs.Named.{names_check, names_fold}
+use Rattle.workflow_laws.proofs.SomeClass.{has_class}
 use Rattle.workflow_laws.proofs.Verdicts.{says_so}
 
 -- ---- `check` says what `fold` comes to

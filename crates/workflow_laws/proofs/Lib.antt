@@ -24,11 +24,14 @@ mod Rests
 mod RoundTrips
 mod Schedules
 mod ShortOrders
+mod SmallAlike
 mod SmallClass
 mod SmallStarts
 mod SomeCanon
 mod SomeCertificate
+mod SomeClass
 mod SomeOutcome
 mod Told
 mod Up
 mod Verdicts
+mod Written

@@ -14,7 +14,7 @@ use Rattle.bonsai_top.specs.Words.{short, short_number_of}
 use Rattle.bonsai_top.specs.Commands.{class_command, second_command, command_of}
 use Rattle.workflow_laws.specs.Commands as command
 use Rattle.workflow_laws.specs.Setting.{IsShort}
-use Rattle.workflow_laws.specs.Words.{groups, compress, certify, check, fold, lift, run, reach, verify}
+use Rattle.workflow_laws.specs.Words.{groups, compress, canon, certify, check, fold, lift, run, reach, verify}
 
 number_read : (n : ℕ) → n ≤ 4294967295 → number_of (decimal n) ≡ Some n
 number_read n small = up_to_back 4294967295 n small (omega arith)
@@ -45,6 +45,9 @@ module _ (F : List ℕ) (N : ℕ) (small : IsShort N) where
 
   pub names_compress : command_of (compress F N) ≡ Some (command.Compress N)
   names_compress = of_class (codes "compress") F N small on_class.Compress refl
+
+  pub names_canon : command_of (canon F N) ≡ Some (command.Canon N)
+  names_canon = of_class (codes "canon") F N small on_class.Canon refl
 
   pub names_certify : command_of (certify F N) ≡ Some (command.Certify N)
   names_certify = of_class (codes "certify") F N small on_class.Certify refl

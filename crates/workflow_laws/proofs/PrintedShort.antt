@@ -38,11 +38,11 @@ use Rattle.workflow_laws.specs.Commands as command
 use Rattle.workflow_laws.specs.PrintedShort.{PrintedIsShort}
 use Rattle.workflow_laws.specs.Words.{fold, lift, reach, run}
 use Rattle.workflow_laws.proofs.Answers.{done_reading}
-use Rattle.workflow_laws.proofs.Kept.{has_class}
 use Rattle.workflow_laws.proofs.Named.{names_fold, names_lift, names_reach, names_run}
 use Rattle.workflow_laws.proofs.Rested.{are_rested, fits_solution}
-use Rattle.workflow_laws.proofs.Rests.{from_all, not_broken, reached, some_class}
+use Rattle.workflow_laws.proofs.Rests.{from_all, not_broken, reached}
 use Rattle.workflow_laws.proofs.ShortOrders.{order_short}
+use Rattle.workflow_laws.proofs.SomeClass.{has_class, some_class}
 
 abbrev AreRouterNames : List (List ℕ) → Type 0
 AreRouterNames names = AllByRecursion (λ (name : List ℕ). is_router_name name ≡ true) names

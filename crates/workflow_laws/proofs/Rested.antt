@@ -33,9 +33,8 @@ use Rattle.workflow_laws.specs.Commands as command
 use Rattle.workflow_laws.specs.Orders.{WhatRestsIsStable}
 use Rattle.workflow_laws.specs.Words.{check, run}
 use Rattle.workflow_laws.proofs.Answers.{answer_of, done_reading}
-use Rattle.workflow_laws.proofs.Kept.{has_class}
 use Rattle.workflow_laws.proofs.Named.{names_check, names_run}
-use Rattle.workflow_laws.proofs.Rests.{some_class}
+use Rattle.workflow_laws.proofs.SomeClass.{has_class, some_class}
 use Rattle.workflow_laws.proofs.Told.{text_told_stable}
 use Rattle.workflow_laws.proofs.Up.{check_of}
 

@@ -3,7 +3,6 @@ use Rattle.std.proofs.Common.{◌≡◌, ◌≤◌, ◌<◌, inl, inr, ℕ, suc,
 use Rattle.std.specs.Prelude.{All, slice_index_or}
 use Rattle.std.specs.List.{AllByRecursion}
 use Rattle.cfg_ast.specs.declared.classes.DestClass.{DestClass}
-use Rattle.cfg_ast.specs.declared.network.Network.{Network}
 use Rattle.cfg_ast.specs.meaning.Classes.{classes_of}
 use Rattle.cfg_check.proofs.Faultless.{few_routers}
 use Rattle.given_laws.specs.Laws.{GivenIsWellFormed}
@@ -36,7 +35,7 @@ use Rattle.route_run.proofs.Reaching.{order_reaches}
 use Rattle.answer_runs.proofs.OneReach.{order_too}
 use Rattle.answer_kit.specs.Groups.{IsProblemOfClass}
 use Rattle.answer_kit.specs.declared.status.Status.TheVariants.{Done, NotStable}
-use Rattle.answer_kit.specs.ClassNumbers.{class_at, no_class, IsOfClass}
+use Rattle.answer_kit.specs.ClassNumbers.{class_at, IsOfClass}
 use Rattle.answer_kit.specs.Outcome.{Outcome, done, not_stable}
 use Rattle.answer_kit.specs.SecondFiles.{long_solution, solution_reason, IsOfLabels, IsOfSolution, IsOfSecond}
 use Rattle.answer_kit.proofs.NamesApart.{problem_apart}
@@ -52,10 +51,10 @@ use Rattle.workflow_laws.specs.Orders.{RestsLike, WhatIsReachedRests}
 use Rattle.workflow_laws.specs.Setting.{HasClass}
 use Rattle.workflow_laws.specs.Words.{run, reach}
 use Rattle.workflow_laws.proofs.Answers.{answer_of, done_reading}
-use Rattle.workflow_laws.proofs.Kept.{has_class}
 use Rattle.workflow_laws.proofs.Named.{names_reach, names_run}
 use Rattle.workflow_laws.proofs.Schedules.{names_are_read, run_is}
 use Rattle.workflow_laws.proofs.ShortOrders.{order_short}
+use Rattle.workflow_laws.proofs.SomeClass.{has_class, some_class}
 
 name_of : Router → List ℕ
 name_of r = r.name
@@ -97,17 +96,6 @@ module _ (P : Problem) (solution order : List ℕ) where
   pub reached : IsOfSolution P (Some solution) (IsReach P) (done order) → IsReached P solution order
   reached (inl long) = absurd (not_refused order long_solution long.1)
   reached (inr is) = of_labels (labels_of_text P.protocol P.names solution) refl is.1
-
--- the class of what is done
-pub record IsOfSome (n : Network) (number : ℕ) (IsAllowed : DestClass → Outcome → Type 0) (written : List ℕ) : Type 0 where
-  pub class : DestClass
-  pub class_is : class_at (classes_of n) number ≡ Some class
-  pub allowed : IsAllowed class (done written)
-
-pub some_class : (n : Network) (number : ℕ) (A : DestClass → Outcome → Type 0) (written : List ℕ) (found : Option DestClass)
-    → class_at (classes_of n) number ≡ found → IsOfClass found number A (done written) → IsOfSome n number A written
-some_class n number A written None at is = absurd (not_refused written (no_class number) is)
-some_class n number A written (Some class) at is = record { class = class; class_is = at; allowed = is }
 
 -- ---- what is run
 

@@ -2,7 +2,6 @@
 use Rattle.std.proofs.Common.{◌≡◌, ◌≤◌, ℕ, List, length, refl, sym, ap, ◌∙◌, subst, Option, Some, Ok}
 use Rattle.cfg_ast.specs.declared.classes.DestClass.{DestClass}
 use Rattle.class_laws.specs.Laws.{BuiltProblemIsOne}
-use Rattle.compress_laws.specs.Laws.{TextHasProblemOfGroups}
 use Rattle.reading_laws.specs.WellRead.{WhatIsReadIsWell}
 use Rattle.srp_core.proofs.AlikeOf.{one_problem as problems_alike}
 use Rattle.srp_core.specs.declared.route.Route.{Route}
@@ -24,8 +23,9 @@ use Rattle.workflow_laws.specs.CarriedDown.{WhatIsFoldedIsStableBelow, WhatIsFol
 use Rattle.workflow_laws.specs.PrintedShort.{PrintedIsShort}
 use Rattle.workflow_laws.specs.Words.{check, fold, lift}
 use Rattle.workflow_laws.proofs.Answers.{answer_of, done_over, done_reading}
-use Rattle.workflow_laws.proofs.Kept.{has_class, short_large, short_small, small_network}
+use Rattle.workflow_laws.proofs.Kept.{short_large, short_small, SmallLaws, small_network}
 use Rattle.workflow_laws.proofs.Named.{names_check, names_fold, names_lift}
+use Rattle.workflow_laws.proofs.SomeClass.{has_class}
 use Rattle.workflow_laws.proofs.Told.{of_read, text_told_stable, work_is_done}
 use Rattle.workflow_laws.proofs.Up.{check_of, lift_of}
 
@@ -51,12 +51,13 @@ what_is_lifted_is_stable well back few contents F S T text solution written N sm
 
 -- ---- what `fold` writes is stable below
 
-pub what_is_folded_is_stable_below : WhatIsReadIsWell → BuiltProblemIsOne → TextHasProblemOfGroups → FoldIsReadBack → PrintedIsShort → WhatIsFoldedIsStableBelow
-what_is_folded_is_stable_below well built has_problem back few contents F G S T solution written N K c told x kept checked y =
+pub what_is_folded_is_stable_below : SmallLaws → FoldIsReadBack → PrintedIsShort → WhatIsFoldedIsStableBelow
+what_is_folded_is_stable_below laws back few contents F G S T solution written N K c told x kept checked y =
+    let well = laws.well in
     let n = c.of_large.network in
     let m = c.of_small.network in
     let read = well c.large n c.of_large.reads in
-    let low = small_network well built has_problem contents F G N K c in
+    let low = small_network laws contents F G N K c in
     let d = done_over (fold F N S) contents (command.Fold N) refl (names_fold F S N (short_large well contents F G N K c)) c.large c.holds written n
     c.of_large.reads x in
     let f = back n ∣ (c.large, read.given) ∣₁ read.faultless N solution written

@@ -1,15 +1,14 @@
--- What `compress` writes has a class with the prefixes of the class.
+-- What `compress` or `canon` writes has a class with the prefixes of the class.
 --
 -- 1. No router of the network that is read back has a prefix list.
 -- 2. To each prefix of the class some group has an initial route, and so has its router there.
 -- 3. All prefixes of the class have one problem there, so equal initial routes: they are in one class.
 -- 4. In BGP there is no other class.
-use Rattle.std.proofs.Common.{◌≡◌, ℕ, zero, suc, ◌<◌, ◌≤◌, Bool, true, false, ◌||◌, List, [], ◌∷◌, ◌++◌, map, length, inl, inr}
+use Rattle.std.proofs.Common.{◌≡◌, ℕ, zero, suc, ◌<◌, true, List, [], ◌∷◌, ◌++◌, map, length, inl, inr}
 use Rattle.std.proofs.Common.{Option, Some, None, Ok, refl, sym, ap, ◌∙◌, subst, arith}
-use Rattle.std.specs.Prelude.{Contains, filter_map, flat_map, is_some, nat_lt, slice_index_or}
+use Rattle.std.specs.Prelude.{Contains, filter_map, flat_map, is_some, slice_index_or}
 use Rattle.std.specs.List.{range_with_len}
 use Rattle.std.specs.Option.{option_map}
-use Rattle.std.proofs.lemmas.Bool.Decides.{nat_tests}
 use Rattle.base_kit.specs.declared.protocol.Protocol.TheVariants.{Bgp}
 use Rattle.base_kit.specs.Prefixes.{Prefix}
 use Rattle.base_kit.proofs.Elements.{In, contains_in, filter_in, flat_map_in, in_contains, in_map, map_in}
@@ -20,9 +19,8 @@ use Rattle.cfg_ast.specs.declared.policy.PrefixList.{PrefixList}
 use Rattle.cfg_ast.specs.meaning.Classes.{class_of, classes_of, initial_route, is_same_class, lists_on, originated, originated_by, up_subnet}
 use Rattle.cfg_ast.specs.printing.Bare.{bare, bare_prefix_list, bare_router}
 use Rattle.cfg_ast.specs.text.Reading.{reading_of}
-use Rattle.cfg_print.specs.Prints.{is_too_long, count_newlines}
 use Rattle.cfg_round_trip.specs.Laws.{PrintedIsReadBack}
-use Rattle.compress_laws.specs.Laws.{compressed_text, PlanFits, TextHasProblemOfGroups}
+use Rattle.compress_laws.specs.Laws.{compressed_text, BuiltFits, FittingPlanFits}
 use Rattle.config_emit.specs.Emitted.{emitted, emitted_router, notes_of}
 use Rattle.config_emit.specs.Laws.{EmittedCanBePrinted}
 use Rattle.config_emit.specs.Plan.{Plan, small}
@@ -34,21 +32,17 @@ use Rattle.srp_core.specs.Quotient.{group_of, IsQuotient}
 use Rattle.srp_quotient.specs.Groups.{quotient_problem}
 use Rattle.srp_quotient.specs.Laws.{QuotientIsQuotient}
 use Rattle.emit_form_laws.proofs.Origins.{class_is}
-use Rattle.answer_groups.specs.CompressText.{IsCompressOf}
 use Rattle.answer_kit.specs.ClassNumbers.{class_at}
 use Rattle.answer_kit.proofs.OneClass.{some_prefix}
-use Rattle.workflow_laws.specs.Commands as command
-use Rattle.carried_laws.proofs.Carried.{plan_text}
 use Rattle.workflow_laws.specs.ClassKept.{ClassIsKept, HasClassOf}
 use Rattle.workflow_laws.specs.Setting.{HasClass, HasPrefixesOf}
-use Rattle.workflow_laws.specs.Words.{compress}
-use Rattle.workflow_laws.proofs.Answers.{done_reading}
+use Rattle.workflow_laws.specs.Written.{FittingTextHasProblemOfGroups}
 use Rattle.workflow_laws.proofs.FewClasses.{short_of_class}
-use Rattle.workflow_laws.proofs.Kept.{has_class, one_network}
-use Rattle.workflow_laws.proofs.Named.{names_compress}
+use Rattle.workflow_laws.proofs.Kept.{one_network}
 use Rattle.workflow_laws.proofs.OneClass.{of_group, one_number, originates_class}
-use Rattle.workflow_laws.proofs.Rests.{some_class}
 use Rattle.workflow_laws.proofs.SmallClass.{among, has_number, joined, originated_here, same_class, set_in}
+use Rattle.workflow_laws.proofs.SomeClass.{has_class}
+use Rattle.workflow_laws.proofs.Written.{few_lines, written_of}
 
 -- ---- 1. no prefix lists
 
@@ -118,14 +112,6 @@ starts_below n m p P Q groups of below quotient s =
 
 -- ---- 3. one class
 
-second : (a b : Bool) → (a || b) ≡ false → b ≡ false
-second true b e = absurd cc
-second false b e = e
-
-few : (bs : List ℕ) → is_too_long bs ≡ false → count_newlines bs ≤ 1000000
-unfolding is_too_long
-few bs e = let f = second (nat_lt 16777216 (length bs)) (nat_lt 1000000 (count_newlines bs)) e in grind (arith, nat_tests)
-
 -- networks with one problem for all prefixes of a class, the one the quotient of the other
 keeps : WhatIsReadIsWell → (n m : Network) (class : DestClass) (P Q : Problem) (groups text : List ℕ) → Contains (classes_of n) class
     → reading_of text ≡ Ok m → flat_map lists_on m.routers ≡ []
@@ -163,20 +149,20 @@ only_one e bgp m same none Q below k c at = one_number m (λ p q i j. same_class
         let r = originator m p i in
         below p (contains_in e.class.prefixes p (originates_class e bgp r.0 (of_group e m r.0 same r.1) p r.2))
 
-pub class_is_kept : WhatIsReadIsWell → TextHasProblemOfGroups → PlanFits → EmittedCanBePrinted → PrintedIsReadBack → QuotientIsQuotient → ClassIsKept
-class_is_kept well has_problem fits printed back is_quotient contents F large bytes N short holds x =
-    let d = done_reading (compress F N) contents (command.Compress N) refl (names_compress F N short) large holds bytes x in
-    let n = d.network in
-    let read = well large n d.read in
-    let r = some_class n N (IsCompressOf n) bytes (class_at (classes_of n) N) refl d.over.answer in
-    let class = r.class in
-    let has = has_class n N class r.class_is in
-    let t = plan_text n N class bytes r.class_is d.over.answer in
+pub class_is_kept : WhatIsReadIsWell → BuiltFits → FittingTextHasProblemOfGroups → FittingPlanFits → EmittedCanBePrinted → PrintedIsReadBack → QuotientIsQuotient
+    → ClassIsKept
+class_is_kept well built_fits has_problem fits printed back is_quotient contents F large bytes N short holds x =
+    let w = written_of well built_fits contents F N short large holds bytes x in
+    let n = w.network in
+    let read = well large n w.reads in
+    let class = w.class in
+    let has = has_class n N class w.class_is in
+    let t = w.text in
     let e = t.plan in
     let h = has_problem n class e ∣ (large, read.given) ∣₁ read.faultless has t.is t.apart t.short in
     let plan = fits n class e ∣ (large, read.given) ∣₁ read.faultless has t.is t.apart in
     let can = printed e plan in
-    let again = back (emitted e) (notes_of e) can.well_formed can.notes (few (compressed_text e) t.short) can.short in
+    let again = back (emitted e) (notes_of e) can.well_formed can.notes (few_lines (compressed_text e) t.short) can.short in
     let one : h.read ≡ again.read = one_network h.read again.read (sym (well (compressed_text e) h.read h.reads).given ∙ again.reads) in
     let none = none_listed e h.read (ap bare one ∙ again.same) in
     let first = some_prefix n class has in
@@ -189,7 +175,7 @@ class_is_kept well has_problem fits printed back is_quotient contents F large by
     below quotient in
     let other : h.read ≡ kept.of_text.network = one_network h.read kept.of_text.network (sym (ap reading_of t.text ∙ h.reads) ∙ kept.of_text.reads) in
     record {
-      of_large = record { network = n; reads = d.read; class = class; class_is = r.class_is };
+      of_large = record { network = n; reads = w.reads; class = class; class_is = w.class_is };
       of_small = kept;
       in_bgp = λ over. (
           let protocol : Some e.problem.protocol ≡ Some Bgp = sym (t.is.built.of first.0 first.1).protocol ∙ over in

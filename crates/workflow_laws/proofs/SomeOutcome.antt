@@ -54,10 +54,10 @@ use Rattle.workflow_laws.proofs.Carriers.{some_fold, some_lift}
 use Rattle.workflow_laws.proofs.Carrying.{HasCarrying}
 use Rattle.workflow_laws.proofs.Decided.{IsComplete, IsSound}
 use Rattle.workflow_laws.proofs.Existence.{check_of_plan, compress_of_plan, groups_of_plan, reach_of_plan, run_of_plan, HasOrder}
-use Rattle.workflow_laws.proofs.Kept.{has_class}
 use Rattle.workflow_laws.proofs.Labelled.{RestIsStable, SomeOf}
 use Rattle.workflow_laws.proofs.SomeCanon.{some_canon}
 use Rattle.workflow_laws.proofs.SomeCertificate.{some_certify, some_verify}
+use Rattle.workflow_laws.proofs.SomeClass.{has_class}
 
 -- the laws on which existence depends
 pub record HasLaws : Type 0 where

@@ -4,9 +4,6 @@ use Rattle.std.specs.Prelude.{Contains, IsSome}
 use Rattle.cfg_ast.specs.declared.classes.DestClass.{DestClass}
 use Rattle.cfg_ast.specs.declared.network.Network.{Network}
 use Rattle.cfg_ast.specs.meaning.Classes.{classes_of}
-use Rattle.class_laws.specs.Laws.{BuiltProblemIsOne}
-use Rattle.compress_laws.specs.Laws.{TextHasProblemOfGroups}
-use Rattle.reading_laws.specs.WellRead.{WhatIsReadIsWell}
 use Rattle.srp_core.proofs.AlikeOf.{one_problem as problems_alike}
 use Rattle.answer_kit.specs.ClassNumbers.{class_at, IsOfClass}
 use Rattle.answer_kit.specs.Outcome.{Outcome}
@@ -18,8 +15,9 @@ use Rattle.workflow_laws.specs.CarriedUp.{CheckBelowIsLift}
 use Rattle.workflow_laws.specs.Setting.{verdict_told}
 use Rattle.workflow_laws.specs.Words.{check, lift}
 use Rattle.workflow_laws.proofs.Answers.{answer_of}
-use Rattle.workflow_laws.proofs.Kept.{has_class, done_compress, short_large, short_small, IsSmall, small_network}
+use Rattle.workflow_laws.proofs.Kept.{large_within, short_large, short_small, IsSmall, SmallLaws, small_network}
 use Rattle.workflow_laws.proofs.Named.{names_check, names_lift}
+use Rattle.workflow_laws.proofs.SomeClass.{has_class}
 use Rattle.workflow_laws.proofs.Verdicts.{says_so}
 
 -- the answer for the class of a number
@@ -43,14 +41,14 @@ below_is_lift n m class lower bytes has small prefixes second told lifted checke
     says_so x.sides.small (IsLifted x.sides) (λ labels o is. ap (λ (q : Outcome). q.status) is.written) y.problem alike x.are.small_rules second told lifted
     checked x.solution y.solution
 
-pub check_below_is_lift : WhatIsReadIsWell → BuiltProblemIsOne → TextHasProblemOfGroups → CheckBelowIsLift
-check_below_is_lift well built has_problem contents F G S N K c told lifted checked x y =
+pub check_below_is_lift : SmallLaws → CheckBelowIsLift
+check_below_is_lift laws contents F G S N K c told lifted checked x y =
+    let well = laws.well in
     let n = c.of_large.network in
     let m = c.of_small.network in
-    let small = small_network well built has_problem contents F G N K c in
-    let first = done_compress well contents F G N K c in
+    let small = small_network laws contents F G N K c in
     let lifts = answer_of (lift F N S) contents (command.Lift N) refl (names_lift F S N (short_large well contents F G N K c)) c.large c.holds lifted n
-    c.of_large.reads first.short x in
+    c.of_large.reads (large_within well contents F G N K c laws.fits) x in
     let checks = answer_of (check G K S) contents (command.Check K) refl (names_check G S K (short_small well contents F G N K c)) c.small c.kept checked m
     c.of_small.reads small.short y in
     below_is_lift n m c.of_large.class c.of_small.class c.small (has_class n N c.of_large.class c.of_large.class_is) small c.prefixes (contents S) told lifted

@@ -11,6 +11,9 @@ Groups = OnClass on_class.Groups
 abbrev pub Compress : ℕ → Command
 Compress = OnClass on_class.Compress
 
+abbrev pub Canon : ℕ → Command
+Canon = OnClass on_class.Canon
+
 abbrev pub Certify : ℕ → Command
 Certify = OnClass on_class.Certify
 

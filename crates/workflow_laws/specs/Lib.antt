@@ -10,3 +10,4 @@ pub mod PrintedShort
 pub mod Questions
 pub mod Setting
 pub mod Words
+pub mod Written

@@ -1,5 +1,5 @@
 -- What a person has who asks the small network in place of the large one.
-use Rattle.std.specs.Prelude.{◌≡◌, ◌≤◌, ℕ, List, Option, Some, Ok, Contains, codes}
+use Rattle.std.specs.Prelude.{◌≡◌, ◌≤◌, ◌⊎◌, ℕ, List, Option, Some, Ok, Contains, codes}
 use Rattle.base_kit.specs.Prefixes.{Prefix}
 use Rattle.cfg_ast.specs.declared.classes.DestClass.{DestClass}
 use Rattle.cfg_ast.specs.declared.network.Network.{Network}
@@ -10,7 +10,7 @@ use Rattle.answer_kit.specs.declared.status.Status.{Status}
 use Rattle.answer_kit.specs.declared.status.Status.TheVariants.{Done, Refused, Usage, ReadFault, WriteFault, Memory, NotStable}
 use Rattle.answer_kit.specs.Outcome.{Outcome, done}
 use Rattle.bonsai_top.specs.Outcomes.{IsOutcome}
-use Rattle.workflow_laws.specs.Words.{compress}
+use Rattle.workflow_laws.specs.Words.{canon, compress}
 
 -- what the files hold, where it is told
 abbrev pub Contents : Type 0
@@ -31,13 +31,17 @@ pub record HasClass (text : List ℕ) (number : ℕ) : Type 0 where
 abbrev pub HasPrefixesOf : DestClass → DestClass → Type 0
 HasPrefixesOf class small = (p : Prefix) → Contains class.prefixes p → Contains small.prefixes p
 
--- F holds a text and N is the number of one of its classes. G holds what `compress F N` wrote, and K is the number of
--- the class there that has the prefixes of the class N.
+-- this is what `compress F N` writes, or what `canon F N` writes
+abbrev pub IsWritten : Contents → List ℕ → ℕ → List ℕ → Type 0
+IsWritten contents F N small = IsOutcome (compress F N) contents (done small) ⊎ IsOutcome (canon F N) contents (done small)
+
+-- F holds a text and N is the number of one of its classes. G holds what `compress F N` or `canon F N` wrote, and K is the
+-- number of the class there that has the prefixes of the class N.
 pub record IsCompressed (contents : Contents) (F : List ℕ) (N : ℕ) (G : List ℕ) (K : ℕ) : Type 0 where
   pub large : List ℕ
   pub holds : contents F ≡ Some large
   pub small : List ℕ
-  pub wrote : IsOutcome (compress F N) contents (done small)
+  pub wrote : IsWritten contents F N small
   pub kept : contents G ≡ Some small
   pub of_large : HasClass large N
   pub of_small : HasClass small K

@@ -7,6 +7,9 @@ groups file number = codes "groups" ∷ file ∷ decimal number ∷ []
 abbrev pub compress : List ℕ → ℕ → List (List ℕ)
 compress file number = codes "compress" ∷ file ∷ decimal number ∷ []
 
+abbrev pub canon : List ℕ → ℕ → List (List ℕ)
+canon file number = codes "canon" ∷ file ∷ decimal number ∷ []
+
 abbrev pub certify : List ℕ → ℕ → List (List ℕ)
 certify file number = codes "certify" ∷ file ∷ decimal number ∷ []
 

@@ -14,13 +14,16 @@ ghost use Rattle.workflow_laws.specs.Existence.{EachTextIsJudged, OutcomesAgree,
 ghost use Rattle.workflow_laws.specs.Orders.{WhatIsReachedRests, WhatRestsIsStable};
 ghost use Rattle.workflow_laws.specs.PrintedShort.{PrintedIsShort};
 ghost use Rattle.workflow_laws.specs.Questions.{EachQuestionCarries, SmallAnswersForLarge};
+ghost use Rattle.workflow_laws.specs.Written.{FittingTextHasProblemOfGroups};
 
 use answer_certificates::laws::verify_answer_is_one;
 use answer_solutions::laws::{fold_is_read_back, lift_is_read_back};
 use bonsai_top::laws::outcome_is_one;
 use canon_policy::laws::each_has_canonical;
+use cfg_check::laws::faultless_is_accepted;
 use class_laws::built_problem_is_one;
-use compress_laws::laws::{built_fits, plan_compresses, plan_fits, text_has_problem_of_groups};
+use compress_laws::emitted::emitted_stands_for_groups;
+use compress_laws::laws::{built_fits, fitting_plan_compresses, fitting_plan_fits};
 use emit_form_laws::laws::emitted_can_be_printed;
 use existence_laws::{each_class_has_problem, each_graph_has_certificate, each_problem_has_graph};
 use given_laws::given_is_well_formed;
@@ -38,13 +41,26 @@ use srp_core::laws::{
 };
 use srp_quotient::laws::{quotient_is_problem, quotient_is_quotient};
 
-/// What `compress` writes has a class with the prefixes of the class that it was written for, and in BGP no other.
+/// The text of a plan with a problem that fits the class, as `compress` and `canon` write it, is read as a
+/// network that has the problem of the groups.
+pub fn fitting_text_has_problem_of_groups()
+    ensures { FittingTextHasProblemOfGroups }
+{
+    fitting_plan_fits();
+    emitted_can_be_printed();
+    emitted_stands_for_groups();
+    cfg_round_trip::printed_is_read_back();
+    faultless_is_accepted();
+}
+
+/// What `compress` or `canon` writes has a class with the prefixes of the class that it was written for, and in BGP no other.
 pub fn class_is_kept()
     ensures { ClassIsKept }
 {
     what_is_read_is_well();
-    text_has_problem_of_groups();
-    plan_fits();
+    built_fits();
+    fitting_text_has_problem_of_groups();
+    fitting_plan_fits();
     emitted_can_be_printed();
     cfg_round_trip::printed_is_read_back();
     quotient_is_quotient();
@@ -57,7 +73,9 @@ pub fn check_below_is_lift()
 {
     what_is_read_is_well();
     built_problem_is_one();
-    text_has_problem_of_groups();
+    built_fits();
+    fitting_text_has_problem_of_groups();
+    quotient_is_quotient();
 }
 
 /// What is written of stable labels is no longer than a solution may be, and an order no longer than a schedule.
@@ -91,7 +109,9 @@ pub fn what_is_folded_is_stable_below()
 {
     what_is_read_is_well();
     built_problem_is_one();
-    text_has_problem_of_groups();
+    built_fits();
+    fitting_text_has_problem_of_groups();
+    quotient_is_quotient();
     fold_is_read_back();
     printed_is_short();
 }
@@ -147,7 +167,8 @@ pub fn compressed_again()
 {
     what_is_read_is_well();
     built_problem_is_one();
-    text_has_problem_of_groups();
+    built_fits();
+    fitting_text_has_problem_of_groups();
     quotient_is_quotient();
     quotient_is_smallest();
 }
@@ -158,7 +179,8 @@ pub fn small_answers_for_large()
     ensures { SmallAnswersForLarge }
 {
     what_is_read_is_well();
-    plan_compresses();
+    built_fits();
+    fitting_plan_compresses();
     pictures_agree();
     questions_carry();
 }

@@ -1,6 +1,14 @@
 use Rattle.workflow_laws.proofs.Again.{compressed_again}
+use Rattle.workflow_laws.proofs.Kept.{SmallLaws}
 use Rattle.workflow_laws.proofs.compressed_again.Goals as goal
 
 pub returns : goal.returns
-returns c = compressed_again c.what_is_read_is_well.ensures c.built_problem_is_one.ensures c.text_has_problem_of_groups.ensures c.quotient_is_quotient.ensures
-    c.quotient_is_smallest.ensures
+returns c =
+    let laws : SmallLaws = record {
+      well = c.what_is_read_is_well.ensures;
+      built = c.built_problem_is_one.ensures;
+      fits = c.built_fits.ensures;
+      has_problem = c.fitting_text_has_problem_of_groups.ensures;
+      is_quotient = c.quotient_is_quotient.ensures;
+    } in
+    compressed_again laws c.quotient_is_smallest.ensures

@@ -1,6 +1,14 @@
+use Rattle.workflow_laws.proofs.Kept.{SmallLaws}
 use Rattle.workflow_laws.proofs.RoundTrips.{what_is_folded_is_stable_below}
 use Rattle.workflow_laws.proofs.what_is_folded_is_stable_below.Goals as goal
 
 pub returns : goal.returns
-returns c = what_is_folded_is_stable_below c.what_is_read_is_well.ensures c.built_problem_is_one.ensures c.text_has_problem_of_groups.ensures
-    c.fold_is_read_back.ensures c.printed_is_short.ensures
+returns c =
+    let laws : SmallLaws = record {
+      well = c.what_is_read_is_well.ensures;
+      built = c.built_problem_is_one.ensures;
+      fits = c.built_fits.ensures;
+      has_problem = c.fitting_text_has_problem_of_groups.ensures;
+      is_quotient = c.quotient_is_quotient.ensures;
+    } in
+    what_is_folded_is_stable_below laws c.fold_is_read_back.ensures c.printed_is_short.ensures
