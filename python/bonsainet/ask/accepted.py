@@ -17,7 +17,7 @@ def accepted_classes(program: Program, raw: bytes, name: str) -> list[Class]:
         raise Refused(f"{name}: no router in it; bonsai-import writes nothing where it refuses a line")
     answer = program.ask("classes", "F", texts={"F": raw})
     if answer.status == Status.REFUSED:
-        raise Refused(f"{name}: {answer.reason}; tools/bonsai-refusals tells all refusals")
+        raise Refused(f"{name}: {answer.reason}; tools/bonsai-refusals lists all refusals")
     if answer.status != Status.DONE:
         raise NotAnswered(answer, f"classes {name}")
     return classes_of(answer.text)

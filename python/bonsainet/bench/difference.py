@@ -22,6 +22,7 @@ from bonsainet.bench.states import in_ascii, kind, machine
 from bonsainet.cli.command_line import Refused, parser
 from bonsainet.nets.campus import campus_text
 from bonsainet.nets.fat_tree import fat_tree_text
+from bonsainet.repo.marks import with_measured
 
 KEPT = TOP / "bench" / "measured" / "difference.csv"
 PAGE = TOP / "docs" / "inside" / "MEASURED.md"
@@ -199,8 +200,7 @@ def read(place: Path = KEPT) -> tuple[str, list[Row]]:
 
 def with_table(page: str, told: str, rows: list[Row]) -> str:
     """The page with the table of the rows."""
-    pattern = r"(<!-- measured: difference[^\n]*-->\n).*?(<!-- measured: end -->\n)"
-    return re.sub(pattern, lambda mark: mark[1] + table(told, rows) + mark[2], page, flags=re.S)
+    return with_measured(page, "difference", table(told, rows))
 
 
 def table(told: str, rows: list[Row]) -> str:

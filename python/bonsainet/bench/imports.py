@@ -10,7 +10,6 @@ import csv
 import dataclasses
 import io
 import os
-import re
 import subprocess
 import tempfile
 import time
@@ -23,10 +22,10 @@ from bonsainet.cli.command_line import Refused, parser, write_output
 from bonsainet.nets.campus import campus_text
 from bonsainet.nets.fat_tree import fat_tree_text
 from bonsainet.nets.running import write_running
+from bonsainet.repo.marks import with_measured
 
 KEPT = TOP / "bench" / "measured" / "imports.csv"
 PAGE = TOP / "docs" / "inside" / "MEASURED.md"
-MARKS = re.compile(r"(<!-- measured: imports[^\n]*-->\n).*?(<!-- measured: end -->\n)", re.DOTALL)
 IDLE_PORTS = 24
 ACCESS = 18
 
@@ -155,4 +154,4 @@ def table(rows: list[Row], told: str) -> str:
 
 def with_table(page: str, rows: list[Row], told: str) -> str:
     """The page with the table in its place."""
-    return MARKS.sub(lambda found: f"{found[1]}{table(rows, told)}{found[2]}", page)
+    return with_measured(page, "imports", table(rows, told))

@@ -3,7 +3,6 @@ kept."""
 from __future__ import annotations
 
 import argparse
-import re
 from collections.abc import Callable
 from pathlib import Path
 
@@ -14,6 +13,7 @@ from bonsainet.bench.paper import KEPT, Row, read, table
 from bonsainet.bench.tables import memory_text, turns_text
 from bonsainet.cli.command_line import Refused, parser
 from bonsainet.ask.program import TOP
+from bonsainet.repo.marks import with_measured
 
 PICTURES = TOP / "docs" / "data"
 PAGES = (TOP / "README.md", TOP / "docs" / "inside" / "MEASURED.md")
@@ -55,12 +55,7 @@ def work(arguments: argparse.Namespace) -> None:
 def with_tables(page: str) -> str:
     """A page with the tables of the kept measurements between its marks."""
     for name, text in texts().items():
-        page = re.sub(
-            rf"(<!-- measured: {name}[^\n]*-->\n).*?(<!-- measured: end -->\n)",
-            lambda mark: mark[1] + text + mark[2],
-            page,
-            flags=re.S,
-        )
+        page = with_measured(page, name, text)
     return page
 
 

@@ -104,7 +104,7 @@ PLANS = (
     Plan("fat-tree", fat_tree_text, (40,), (GROUPS, COUNT, ROUTE, ROUTE_OF_ALL, COMPRESS, COMPRESS_ALL)),
     Plan("ring", synthetic.ring, (500, 1000), (GROUPS, COUNT, ROUTE, ROUTE_OF_ALL, COMPRESS, COMPRESS_ALL)),
     *(Plan(name, shape.text, (1024, 2048, 4096), (GROUPS, COUNT)) for name, shape in SHAPES.items()),
-    Plan("bgp-leaf-spine", SHAPES["bgp-leaf-spine"].text, (128, 256, 512), (LINKS,)),
+    Plan("bgp-leaf-spine", SHAPES["bgp-leaf-spine"].text, (512, 1024, 2048), (LINKS,)),
     Plan("campus", campus_of, (50, 100), (GROUPS, COUNT, LINKS)),
     Plan(f"internet-seed-{SEED}", internet_of, (100, 200, 400), (GROUPS, COUNT, ROUTE, ROUTERS)),
     Plan("pairs-around-origin", pairs_around, (10, 11, 12), (GROUPS, COUNT)),

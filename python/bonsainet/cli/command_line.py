@@ -56,13 +56,24 @@ def version() -> str:
     return f"{number} ({told.stdout.strip()})" if told.stdout.strip() else number
 
 
+class Version(argparse.Action):
+    """Writes the version and ends. Git is asked for it where somebody wants to know."""
+
+    def __init__(self, option_strings: list[str], dest: str, **_more: object) -> None:
+        super().__init__(option_strings, dest, nargs=0, help="show program's version number and exit")
+
+    def __call__(self, parser: argparse.ArgumentParser, *_rest: object) -> None:
+        print(f"{parser.prog} {version()}")
+        parser.exit()
+
+
 def parser(name: str, purpose: str, statuses: tuple[tuple[str, str], ...] = (), **more: Any) -> argparse.ArgumentParser:
     """A parser with `--version`, whose help says the purpose, and with `--manual`, which writes the tool's page of the
     manual. `statuses` are those that the tool has besides the common ones."""
     made = argparse.ArgumentParser(
         prog=name, description=purpose, formatter_class=argparse.RawDescriptionHelpFormatter, **more
     )
-    made.add_argument("--version", action="version", version=f"{name} {version()}")
+    made.add_argument("--version", action=Version)
     made.add_argument("--manual", action=Manual)
     made.set_defaults(statuses=statuses)
     return made

@@ -2,6 +2,7 @@
 from __future__ import annotations
 
 import functools
+import socket
 from ipaddress import IPv4Address, IPv4Interface, IPv4Network
 
 KEPT = 1 << 17
@@ -10,7 +11,11 @@ KEPT = 1 << 17
 @functools.lru_cache(KEPT)
 def address_of(word: str) -> IPv4Address:
     """An address. ValueError where the word is none."""
-    return IPv4Address(word)
+    try:
+        # (from bytes it is made much faster than from a word)
+        return IPv4Address(socket.inet_pton(socket.AF_INET, word))
+    except OSError:
+        raise ValueError(f"no address: {word!r}") from None
 
 
 @functools.lru_cache(KEPT)

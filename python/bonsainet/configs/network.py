@@ -97,6 +97,19 @@ class Network:
                 found[interface.own_address.network].append(End(device, interface))
         return dict(found)
 
+    def end_at(self, address: IPv4Address) -> End | None:
+        """The up interface that has an address."""
+        return self._end_at.get(int(address))
+
+    @functools.cached_property
+    def _end_at(self) -> dict[int, End]:
+        # (numbers are found much faster than addresses)
+        return {
+            int(interface.own_address): End(device, interface)
+            for device in self.devices
+            for interface in device.up_interfaces
+        }
+
     @functools.cached_property
     def cables(self) -> dict[IPv4Network, list[End]]:
         """The interfaces of each subnet in order, those that are shut among them, where there are several."""
@@ -127,35 +140,23 @@ class Network:
     @functools.cached_property
     def origins(self) -> list[Origin]:
         """The prefixes that each device originates, in order of devices and interfaces."""
-        found = []
-        for device in self.devices:
-            for interface in device.up_interfaces:
-                prefix = interface.own_address.network
-                if device.bgp and device.bgp.networks and prefix in device.bgp.networks:
-                    found.append(Origin(device.name, prefix, interface.name, None))
-                elif is_in_area(device, interface):
-                    found.append(Origin(device.name, prefix, interface.name, interface.cost_in_area))
-        return found
+        return [origin for device in self.devices for origin in origins_of(device)]
 
     def _sessions(self) -> list[Link]:
-        # (numbers are found much faster than addresses)
-        at = {int(end.interface.own_address): end for ends in self.wires.values() for end in ends}
-        neighbors = {
-            id(device): {int(address): neighbor for address, neighbor in device.bgp.neighbors.items()}
-            for device in self.devices
-            if device.bgp
-        }
-        found = []
+        at = self._end_at
+        found, met = [], set()
+        # (a session is met at the end whose line comes first, so that all stand in order)
         for device in self.devices:
+            met.add(id(device))
             own = {_subnet(interface): interface for interface in device.up_interfaces}
-            for address, neighbor in neighbors.get(id(device), {}).items():
-                far = at.get(address)
-                near = own.get(_subnet(far.interface)) if far else None
-                if near and far and far.device is not device and far.device.bgp:
-                    back = neighbors[id(far.device)].get(int(near.own_address))
-                    if back and _agree(device, neighbor, far.device, back):
+            for address, neighbor in device.bgp.neighbors.items() if device.bgp else ():
+                far = at.get(int(address))
+                if far and far.device.bgp and id(far.device) not in met:
+                    near = own.get(_subnet(far.interface))
+                    back = far.device.bgp.neighbors.get(near.own_address.ip) if near else None
+                    if near and back and _agree(device, neighbor, far.device, back):
                         found.append(Link(End(device, near, neighbor), End(far.device, far.interface, back)))
-        return self._in_order(found)
+        return found
 
     def _adjacencies(self) -> list[Link]:
         found = []
@@ -177,6 +178,16 @@ class Network:
         return sorted(
             (link for link in links if of(link.low) < of(link.high)), key=lambda link: (of(link.low), of(link.high))
         )
+
+
+def origins_of(device: Device) -> Iterator[Origin]:
+    """The prefixes that a device originates, in order of interfaces."""
+    for interface in device.up_interfaces:
+        prefix = interface.own_address.network
+        if device.bgp and device.bgp.networks and prefix in device.bgp.networks:
+            yield Origin(device.name, prefix, interface.name, None)
+        elif is_in_area(device, interface):
+            yield Origin(device.name, prefix, interface.name, interface.cost_in_area)
 
 
 def _subnet(interface: Interface) -> tuple[int, int]:

@@ -9,6 +9,7 @@ import dataclasses
 import functools
 import re
 from collections.abc import Callable, Iterable, Iterator
+from itertools import count, repeat
 from typing import Any, ClassVar, NamedTuple, TypeVar
 
 Item = TypeVar("Item")
@@ -29,9 +30,15 @@ class Place(NamedTuple):
 
 
 @functools.lru_cache(maxsize=1 << 17)
-def _words_of(text: str) -> list[str]:
-    """The words of a text. Configurations repeat their lines, and lines of one text share the list."""
-    return text.split()
+def _read(text: str) -> tuple[list[str], bool]:
+    """The words of a line, and whether it has none or is a comment. Configurations repeat their lines, and lines of one
+    text share the list."""
+    words = text.split()
+    return words, not words or words[0][0] == "!"
+
+
+# (a place without the check that it has a file and a line, for the many lines of a text)
+_unchecked: Any = tuple.__new__
 
 
 class Line:
@@ -43,9 +50,7 @@ class Line:
     def __init__(self, text: str, place: Place) -> None:
         self.text = text
         self.place = place
-        self.words = words = _words_of(text)
-        # (no words, or a comment)
-        self.is_blank = not words or words[0][0] == "!"
+        self.words, self.is_blank = _read(text)
 
     def __eq__(self, other: object) -> bool:
         return isinstance(other, Line) and self.text == other.text and self.place == other.place
@@ -72,21 +77,8 @@ class Line:
 class Kept(list[Item]):
     """A list that keeps what was found out about it until it changes."""
 
-    def __init__(self, items: Iterable[Item] = ()) -> None:
-        super().__init__(items)
-        self.facts: dict[object, Any] = {}
-
-    def fact(self, find: Callable[[Kept[Item]], Found]) -> Found:
-        """What a function says of the list: it is asked once while the list stays as it is."""
-        facts = self.facts
-        if find not in facts:
-            facts[find] = find(self)
-        found: Found = facts[find]
-        return found
-
-    def forget(self) -> None:
-        """Nothing is known of the list any more."""
-        self.facts.clear()
+    # (none as long as nothing is known)
+    facts: dict[object, Any] | None = None
 
     def __reduce__(self) -> tuple[Any, ...]:
         return Kept, (list(self),)
@@ -97,7 +89,8 @@ def _forgetting(name: str) -> Callable[..., Any]:
 
     @functools.wraps(change)
     def changed(self: Kept[Any], *given: Any, **named: Any) -> Any:
-        self.facts.clear()
+        if self.facts is not None:
+            self.facts = None
         return change(self, *given, **named)
 
     return changed
@@ -121,62 +114,63 @@ def _lines_by_word(lines: list[Line]) -> dict[str, list[Line]]:
 class Stanza:
     """A top line and the lines that belong to it."""
 
-    __slots__ = ("_head", "_body")
+    __slots__ = ("head", "body")
+    head: Line
+    body: list[Line]
     # How often the first word of some head became another one.
     changes: ClassVar[int] = 0
 
     def __init__(self, head: Line, body: Iterable[Line] = ()) -> None:
-        self._head = head
-        self._body: Kept[Line] = Kept(body)
+        _set_head(self, head)
+        _set_body(self, Kept(body))
 
-    @property
-    def head(self) -> Line:
-        """The top line."""
-        return self._head
-
-    @head.setter
-    def head(self, head: Line) -> None:
-        if head.words[:1] != self._head.words[:1]:
+    def __setattr__(self, name: str, value: Any) -> None:
+        if name == "body":
+            value = Kept(value)
+        elif value.words[:1] != self.head.words[:1]:
             Stanza.changes += 1
-        self._head = head
-
-    @property
-    def body(self) -> list[Line]:
-        """The lines that belong to it."""
-        return self._body
-
-    @body.setter
-    def body(self, body: list[Line]) -> None:
-        self._body = Kept(body)
+        object.__setattr__(self, name, value)
 
     def __eq__(self, other: object) -> bool:
-        return isinstance(other, Stanza) and self._head == other.head and self._body == other.body
+        return isinstance(other, Stanza) and self.head == other.head and self.body == other.body
+
+    def __reduce__(self) -> tuple[Any, ...]:
+        return Stanza, (self.head, list(self.body))
 
     def __repr__(self) -> str:
-        return f"Stanza({self._head!r}, {self._body!r})"
+        return f"Stanza({self.head!r}, {self.body!r})"
 
     @property
     def lines(self) -> list[Line]:
         """The head and then the body."""
-        return [self._head, *self._body]
+        return [self.head, *self.body]
 
     @property
     def by_word(self) -> dict[str, list[Line]]:
         """The lines of the body by their first word, in their order."""
-        found: dict[str, list[Line]] | None = self._body.facts.get(_lines_by_word)
-        return found if found is not None else self._body.fact(_lines_by_word)
+        body: Any = self.body
+        found: dict[str, list[Line]] | None = body.facts and body.facts.get(_lines_by_word)
+        return self.fact(_lines_by_word) if found is None else found
 
     def fact(self, find: Callable[[list[Line]], Found]) -> Found:
         """What a function says of the body: it is asked once while the body stays as it is."""
-        return self._body.fact(find)
+        body: Any = self.body
+        facts = body.facts
+        if facts is None:
+            facts = body.facts = {}
+        if find not in facts:
+            facts[find] = find(body)
+        found: Found = facts[find]
+        return found
 
     def starts(self, *words: str) -> bool:
         """Whether the head begins with these words."""
-        return self._head.words[: len(words)] == list(words)
+        return self.head.words[: len(words)] == list(words)
 
 
-def _changes_seen(_stanzas: list[Stanza]) -> int:
-    return Stanza.changes
+# (what `__setattr__` sees to is not there yet where a stanza is made)
+_set_head: Any = Stanza.__dict__["head"].__set__
+_set_body: Any = Stanza.__dict__["body"].__set__
 
 
 def _stanzas_by_word(stanzas: list[Stanza]) -> dict[str, list[Stanza]]:
@@ -217,19 +211,19 @@ class Router:
     def _by_word(self) -> dict[str, list[Stanza]]:
         """The stanzas by the first word of their heads, in their order."""
         stanzas: Any = self.stanzas
-        if stanzas.fact(_changes_seen) != Stanza.changes:
-            stanzas.forget()
-            stanzas.fact(_changes_seen)
-        found: dict[str, list[Stanza]] = stanzas.fact(_stanzas_by_word)
+        facts = stanzas.facts
+        if facts is None or facts["changes"] != Stanza.changes:
+            facts = stanzas.facts = {"changes": Stanza.changes, "by word": _stanzas_by_word(stanzas)}
+        found: dict[str, list[Stanza]] = facts["by word"]
         return found
 
 
 def lines_of(text: str, file: str, first: int = 1) -> list[Line]:
     """The lines of a text, of which the first has this number. A carriage return before the end of a line is no part of it."""
-    return [
-        Line(line.removesuffix("\r"), Place(file, number))
-        for number, line in enumerate(text.removesuffix("\n").split("\n"), first)
-    ]
+    texts = text.removesuffix("\n").split("\n")
+    if "\r" in text:
+        texts = [line.removesuffix("\r") for line in texts]
+    return list(map(Line, texts, map(_unchecked, repeat(Place), zip(repeat(file), count(first)))))
 
 
 def router_texts(text: str) -> Iterator[tuple[int, str]]:

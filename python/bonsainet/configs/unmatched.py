@@ -11,7 +11,7 @@ def reason(network: Network, device: Device, neighbor: Neighbor) -> str:
     """One sentence that says what a session with this neighbour lacks."""
     if neighbor.is_shut:
         return "the neighbour is shut down here"
-    far = _end_with(network, neighbor.address)
+    far = network.end_at(neighbor.address)
     if far is None:
         return _without_end(network, neighbor.address)
     if far.device is device:
@@ -29,10 +29,6 @@ def reason(network: Network, device: Device, neighbor: Neighbor) -> str:
             f"this router has no up interface in {far.interface.own_address.network}, the subnet of {far.device.name}"
         )
     return _without_agreement(device, neighbor, far, near.own_address.ip)
-
-
-def _end_with(network: Network, address: IPv4Address) -> End | None:
-    return next((end for ends in network.wires.values() for end in ends if end.address == address), None)
 
 
 def _without_end(network: Network, address: IPv4Address) -> str:

@@ -2,8 +2,7 @@
 from __future__ import annotations
 
 import dataclasses
-import functools
-from collections.abc import Iterable, Iterator, Mapping
+from collections.abc import Collection, Iterable, Iterator, Mapping
 
 from bonsainet.configs.network import Network
 from bonsainet.configs.profile import Device, MapEntry, Neighbor
@@ -45,29 +44,40 @@ class Edit:
 
 def edits(old: Network, new: Network) -> Iterator[Edit]:
     """The items that differ, router by router."""
-    uses_of = functools.cache(lambda: [_Uses(network) for network in (old, new)])
+    found: dict[str, dict[Item, tuple[tuple[Line, ...], tuple[Line, ...]]]] = {}
     for name in {**old.by_name, **new.by_name}:
         before, after = old.by_name.get(name), new.by_name.get(name)
-        if before is None or after is None or before is after:
-            continue
-        items = [_items(device) for device in (before, after)]
-        changed = [item for item in {**items[0], **items[1]} if _words(items[0], item) != _words(items[1], item)]
-        if not changed:
-            continue
-        uses = [side.of(device) for device, side in zip((before, after), uses_of())]
-        for item in changed:
-            found = dict.fromkeys(one for side in uses for one in side.get(item, ()))
-            yield Edit(name, item, items[0].get(item, ()), items[1].get(item, ()), tuple(found))
+        if before and after and before is not after:
+            found[name] = _differing(_items(before), _items(after))
+    edited = {name for name, items in found.items() if items}
+    uses = [_Uses(network, edited) for network in (old, new)]
+    for name in found:
+        used = [side.of(network.by_name[name]) for side, network in zip(uses, (old, new))]
+        for item, lines in found[name].items():
+            directions = dict.fromkeys(one for side in used for one in side.get(item, ()))
+            yield Edit(name, item, *lines, tuple(directions))
 
 
-def sessions_of(network: Network) -> dict[Direction, Session]:
-    """The directions of all sessions."""
+def _differing(
+    before: Mapping[Item, tuple[Line, ...]], after: Mapping[Item, tuple[Line, ...]]
+) -> dict[Item, tuple[tuple[Line, ...], tuple[Line, ...]]]:
+    """The items that differ in their words, with their lines on both sides."""
+    return {
+        item: (before.get(item, ()), after.get(item, ()))
+        for item in {**before, **after}
+        if _words(before, item) != _words(after, item)
+    }
+
+
+def sessions_of(network: Network, routers: Collection[str]) -> dict[Direction, Session]:
+    """The directions of the sessions of some routers."""
     found = {}
-    for link in network.links if network.protocol == "bgp" else ():
-        for near, far in ((link.low, link.high), (link.high, link.low)):
-            assert near.neighbor and far.neighbor
-            direction = Direction(near.device.name, far.device.name, str(near.neighbor.address))
-            found[direction] = Session(near.device, far.device, near.neighbor, far.neighbor)
+    for link in network.links if network.protocol == "bgp" and routers else ():
+        if link.low.device.name in routers or link.high.device.name in routers:
+            for near, far in ((link.low, link.high), (link.high, link.low)):
+                assert near.neighbor and far.neighbor
+                direction = Direction(near.device.name, far.device.name, str(near.neighbor.address))
+                found[direction] = Session(near.device, far.device, near.neighbor, far.neighbor)
     return found
 
 
@@ -106,10 +116,10 @@ def _in_order(lines: Iterable[Line]) -> list[Line]:
 
 
 class _Uses:
-    """For what the policies of a network are used."""
+    """For what the policies of some routers of a network are used."""
 
-    def __init__(self, network: Network) -> None:
-        self.sessions = sessions_of(network)
+    def __init__(self, network: Network, routers: Collection[str]) -> None:
+        self.sessions = sessions_of(network, routers)
         self.by_router: dict[str, list[Direction]] = {}
         for direction in self.sessions:
             for name in (direction.importer, direction.exporter):

@@ -22,6 +22,10 @@ Act = tuple[str, ...]
 NOTHING_PASSES: Act = ("lets nothing pass",)
 # (a class has few other lines, and a line of these for each router)
 MEMBER = re.compile(rb"^! member (\S+)\n", re.MULTILINE)
+# (in 100.64.0.0/10, from which the program takes the addresses of links)
+END_OF_LINK = re.compile(
+    rb"^ ip address 100\.(?:6[4-9]|[7-9]\d|1[01]\d|12[0-7])\.\d+\.\d+ 255\.255\.255\.254$", re.MULTILINE
+)
 
 
 @dataclasses.dataclass(frozen=True)
@@ -43,18 +47,18 @@ class Form:
         return frozenset(tuple(sorted(members)) for members in self.groups)
 
     @functools.cached_property
-    def _parsed(self) -> tuple[dict[tuple[str, str], frozenset[Act]], int]:
+    def _acts(self) -> dict[tuple[str, str], frozenset[Act]]:
         network = read_network(MEMBER.sub(b"", self.text).decode("ascii"), "canon")
         acts: dict[tuple[str, str], set[Act]] = {}
         for link in network.links:
             for near, far in ((link.low, link.high), (link.high, link.low)):
                 acts.setdefault((near.device.name, far.device.name), set()).add(_act(near, far))
-        return {pair: frozenset(found) for pair, found in acts.items()}, len(network.links)
+        return {pair: frozenset(found) for pair, found in acts.items()}
 
     @property
     def links(self) -> int:
-        """How many links there are between groups."""
-        return self._parsed[1]
+        """How many links there are between groups. Each has two addresses of its own, and nothing else has such."""
+        return len(END_OF_LINK.findall(self.text)) // 2
 
     @functools.cached_property
     def group_of(self) -> dict[str, tuple[str, ...]]:
@@ -65,7 +69,7 @@ class Form:
         """The acts by which the group of a router takes routes from that of another. Empty where both are in one group, or
         where there is no such link."""
         ends = [self.group_of[name][0] for name in (importer, exporter) if name in self.group_of]
-        return self._parsed[0].get((ends[0], ends[1]), frozenset()) if len(ends) == 2 else frozenset()
+        return self._acts.get((ends[0], ends[1]), frozenset()) if len(ends) == 2 else frozenset()
 
 
 def _act(near: End, far: End) -> Act:

@@ -12,7 +12,8 @@ from bonsainet.diffing.pictures import COLORS, GONE, NEW, Drawer, Pictures
 from bonsainet.diffing.reason_words import reason_lines
 from bonsainet.diffing.reasons import Reasons
 from bonsainet.diffing.words import head_lines, listed, prefix_lines
-from bonsainet.library import Difference, Network
+from bonsainet.library import Difference
+from bonsainet.library.pairs import Pair
 
 CHANGES_DRAWN = 20
 
@@ -26,9 +27,9 @@ class Section:
     pictures: Pictures
 
 
-def page(old: Network, new: Network, found: Difference, reasons: Reasons, program: Identity) -> str:
+def page(both: Pair, found: Difference, reasons: Reasons, program: Identity) -> str:
     """The page. It draws the first changes, and names all."""
-    drawer = Drawer(old, new)
+    drawer = Drawer(both)
     sections = []
     for number, change in enumerate(found.changed):
         made = (
@@ -46,8 +47,8 @@ def page(old: Network, new: Network, found: Difference, reasons: Reasons, progra
     )
     return room.get_template("diff.html").render(
         version=version(),
-        old=printable(old.name),
-        new=printable(new.name),
+        old=printable(both.old.name),
+        new=printable(both.new.name),
         head=list(head_lines(found)),
         changed=counted(sum(len(one.prefixes) for one in found.changed), "prefix changes", "prefixes change"),
         same=found.same,

@@ -14,15 +14,15 @@ from bonsainet.configs.network import Network as Parsed
 from bonsainet.drawing.graph import Edge, Graph, Node
 from bonsainet.drawing.layout import FONT, NotLaidOut, escaped, laid_out, picture
 from bonsainet.drawing.tool import LINKS_DRAWN, ROUTERS_DRAWN
-from bonsainet.library import Network
 from bonsainet.library.changes import Kind, PrefixChange
+from bonsainet.library.pairs import Pair
 from bonsainet.library.routes import Routes
 
 COLORS = {Kind.GAINED: "#b7e1bc", Kind.LOST: "#f3b3ad", Kind.CHANGED: "#ffd695"}
 PLAIN, LINE, GONE, NEW = "#ffffff", "#999999", "#c0392b", "#2e8b57"
 POINTS = 72
 
-Pair = tuple[str, str]
+Ends = tuple[str, str]
 Places = Mapping[str, tuple[float, float]]
 
 
@@ -36,12 +36,12 @@ class Pictures:
     left: int = 0
 
 
-def _pairs(network: Parsed) -> Counter[Pair]:
+def _pairs(network: Parsed) -> Counter[Ends]:
     """The pairs of routers that links join, and how many join each."""
     return Counter(_pair(link.low.device.name, link.high.device.name) for link in network.links)
 
 
-def _pair(one: str, other: str) -> Pair:
+def _pair(one: str, other: str) -> Ends:
     return (one, other) if one < other else (other, one)
 
 
@@ -49,18 +49,19 @@ class Drawer:
     """Draws changes of two networks. The place of a router is the same in both pictures of a change, and in those of all
     changes unless the networks are too large to be drawn whole."""
 
-    def __init__(self, old: Network, new: Network) -> None:
-        self.networks = old, new
-        self.pairs = _pairs(old.parsed), _pairs(new.parsed)
-        self.routers = tuple(frozenset(network.routers) for network in self.networks)
-        self.every = list(dict.fromkeys([*old.routers, *new.routers]))
+    def __init__(self, both: Pair) -> None:
+        self.networks = both.old, both.new
+        old, new = both.parsed
+        self.pairs = _pairs(old), _pairs(new)
+        self.routers = frozenset(old.by_name), frozenset(new.by_name)
+        self.every = list({**old.by_name, **new.by_name})
         self.is_whole = self._fits(self.every)
         self.places: Places | None = None
 
     def _fits(self, routers: Collection[str]) -> bool:
         return len(routers) <= ROUTERS_DRAWN and len(self._joined(routers)) <= LINKS_DRAWN
 
-    def _joined(self, routers: Collection[str]) -> list[Pair]:
+    def _joined(self, routers: Collection[str]) -> list[Ends]:
         """The pairs among some routers that links join on either side."""
         kept = set(routers)
         return [pair for pair in {**self.pairs[0], **self.pairs[1]} if kept.issuperset(pair)]
@@ -138,7 +139,7 @@ class Drawer:
                 made.edge(*(f"r_{name}" for name in pair), **self._edge(side, pair, ways), tooltip=" ")
         return _bare(_pinned(made))
 
-    def _edge(self, side: int, pair: Pair, ways: Mapping[Pair, bool]) -> dict[str, str]:
+    def _edge(self, side: int, pair: Ends, ways: Mapping[Ends, bool]) -> dict[str, str]:
         """How a link looks: coloured where it is on this side alone, with an arrow where a router that changes forwards."""
         looks = {}
         if not self.pairs[1 - side][pair]:
@@ -149,7 +150,7 @@ class Drawer:
             looks["dir"] = "both" if there and back else "forward" if there else "back"
         return looks
 
-    def _ways(self, side: int, change: PrefixChange) -> Iterator[tuple[Pair, bool]]:
+    def _ways(self, side: int, change: PrefixChange) -> Iterator[tuple[Ends, bool]]:
         """To whom the routers forward whose next hops are others on both sides."""
         for each in change.changes:
             for route in _held(each.after if side else each.before):

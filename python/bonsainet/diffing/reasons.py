@@ -8,7 +8,8 @@ import dataclasses
 from collections.abc import Collection, Iterator, Mapping
 
 from bonsainet.cli.command_line import printable
-from bonsainet.configs.network import End, Link, Network as Parsed, Origin
+from bonsainet.configs.network import End, Link, Network as Parsed, Origin, is_active, is_in_area, origins_of
+from bonsainet.configs.profile import Device, Interface
 from bonsainet.configs.text import Line
 from bonsainet.configs.unmatched import reason as unmatched_reason
 from bonsainet.diffing.edits import Edit, edits, sessions_of
@@ -94,7 +95,7 @@ def _pairs(old: Network, new: Network) -> dict[tuple[int, int], tuple[str, ...]]
 
 def _plain(old: Parsed, new: Parsed, shared: Collection[str]) -> Iterator[Reason]:
     """Links, origins and numbers that differ. Routers whose lines are the same on both sides have none but links."""
-    yield from _links(old, new)
+    yield from _links(old, new, shared)
     yield from _origins(old, new, shared)
     for name in [name for name in old.by_name if name in new.by_name and name not in shared]:
         before, after = (network.by_name[name].bgp for network in (old, new))
@@ -109,26 +110,27 @@ def _plain(old: Parsed, new: Parsed, shared: Collection[str]) -> Iterator[Reason
             yield Reason("preference", f"{name}: default preference {shown[0]} -> {shown[1]}", *lines)
 
 
-def _links(old: Parsed, new: Parsed) -> Iterator[Reason]:
-    """Links that went, came, or cost something else."""
-    ends = [{_ends(link) for link in network.links} for network in (old, new)]
-    same = ends[0] & ends[1]
-    sides = [{_key(link): link for link in network.links if _ends(link) not in same} for network in (old, new)]
+def _links(old: Parsed, new: Parsed, shared: Collection[str]) -> Iterator[Reason]:
+    """Links that went, came, or cost something else. Those between two routers whose lines are the same are the same."""
+    sides = [
+        {
+            _key(link): link
+            for link in network.links
+            if not (link.low.device.name in shared and link.high.device.name in shared)
+        }
+        for network in (old, new)
+    ]
     for key, link in sides[0].items():
         if key not in sides[1]:
-            yield Reason(_word(link), f"{_named(link)} is gone{_why(link, new)}", *_lines(link, old, new))
+            yield Reason(_word(link), f"{_named(link)} is gone{_behind(_why(link, new))}", *_lines(link, old, new))
     for key, link in sides[1].items():
         if key not in sides[0]:
-            yield Reason(_word(link), f"{_named(link)} is new{_why(link, old)}", *_lines(link, old, new))
+            yield Reason(
+                _word(link), f"{_named(link)} is new{_behind(_why(link, old), 'before, ')}", *_lines(link, old, new)
+            )
     for key, link in sides[0].items():
         if key in sides[1]:
             yield from _costs(link, sides[1][key])
-
-
-def _ends(link: Link) -> tuple[int, ...]:
-    """The objects of the ends, which are the same on both sides where the lines of both routers are."""
-    low, high = link.low, link.high
-    return id(low.interface), id(low.neighbor), id(high.interface), id(high.neighbor)
 
 
 def _key(link: Link) -> frozenset[tuple[str, str]]:
@@ -177,25 +179,44 @@ def end_lines(network: Parsed, router: str, name: str, end: End | None = None) -
         yield from (neighbor.lines[word] for word in ("shut",) if word in neighbor.lines)
 
 
+def _behind(reason: str, when: str = "") -> str:
+    """A reason behind what it is for, if there is one."""
+    return reason and f": {when}{reason}"
+
+
 def _why(link: Link, other: Parsed) -> str:
     """Why the other side does not have the link, where that is seen at an end."""
     for end in (link.low, link.high):
         device = other.by_name.get(end.device.name)
         if device is None:
-            return f": there is no router {end.device.name}"
+            return f"there is no router {end.device.name}"
         interface = next((one for one in device.interfaces if one.name == end.interface.name), None)
         if interface is None:
-            return f": {device.name} has no interface {end.interface.name}"
+            return f"{device.name} has no interface {end.interface.name}"
         if interface.is_shut:
-            return f": {device.name} {interface.name} is shut ({printable(str(interface.lines['shut'].place))})"
+            return f"{device.name} {interface.name} is shut ({printable(str(interface.lines['shut'].place))})"
         if interface.address != end.interface.address:
-            return f": {device.name} {interface.name} has {interface.address or 'no address'}"
+            return f"{device.name} {interface.name} has {interface.address or 'no address'}"
+        lacking = _without_process(end, device, interface)
+        if lacking:
+            return lacking
     for end in (link.low, link.high):
         device = other.by_name[end.device.name]
-        neighbor = device.bgp.neighbors.get(end.neighbor.address) if device.bgp and end.neighbor else None
+        neighbor = device.own_bgp.neighbors.get(end.neighbor.address) if end.neighbor else None
         if neighbor:
-            return f": at {device.name}, {unmatched_reason(other, device, neighbor)}"
+            return f"at {device.name}, {unmatched_reason(other, device, neighbor)}"
     return ""
+
+
+def _without_process(end: End, device: Device, interface: Interface) -> str:
+    """What a device and its interface lack for an adjacency or a session, before its neighbours are looked at."""
+    if end.neighbor:
+        return "" if device.bgp else f"{device.name} has no BGP process"
+    if device.ospf is None:
+        return f"{device.name} has no OSPF process"
+    if not is_in_area(device, interface):
+        return f"{device.name} {interface.name} is not in the area"
+    return "" if is_active(device, interface) else f"{device.name} {interface.name} is passive"
 
 
 def _costs(before: Link, after: Link) -> Iterator[Reason]:
@@ -217,7 +238,13 @@ def _origins(old: Parsed, new: Parsed, shared: Collection[str]) -> Iterator[Reas
     # (of a router that is gone or new, all is)
     routers = {name for name in old.by_name if name in new.by_name and name not in shared}
     sides = [
-        {(one.device, one.prefix): one for one in network.origins if one.device in routers} for network in (old, new)
+        {
+            (name, one.prefix): one
+            for name, device in network.by_name.items()
+            if name in routers
+            for one in origins_of(device)
+        }
+        for network in (old, new)
     ]
     for key in {**sides[0], **sides[1]}:
         before, after = (side.get(key) for side in sides)
@@ -226,7 +253,14 @@ def _origins(old: Parsed, new: Parsed, shared: Collection[str]) -> Iterator[Reas
         if before is None or after is None:
             yield Reason("origin", f"{name}: {'no more' if after is None else 'new'}", *lines)
         elif before.cost != after.cost:
-            yield Reason("origin", f"{name}: cost {before.cost} -> {after.cost}", *lines)
+            yield Reason("origin", f"{name}: {_cost_words(before.cost, after.cost)}", *lines)
+
+
+def _cost_words(before: int | None, after: int | None) -> str:
+    """With what costs a prefix is originated, in BGP with none."""
+    if before is None or after is None:
+        return " -> ".join("in BGP" if cost is None else f"in OSPF with cost {cost}" for cost in (before, after))
+    return f"cost {before} -> {after}"
 
 
 def _origin_lines(network: Parsed, origin: Origin | None) -> tuple[Line, ...]:
@@ -251,7 +285,8 @@ def _policies(both: Pair, pairs: Pairs) -> Iterator[PolicyEdit]:
     if not found:
         return
     old, new = both.old, both.new
-    sessions = [sessions_of(network) for network in both.parsed]
+    edited = {edit.router for edit in found}
+    sessions = [sessions_of(network, edited) for network in both.parsed]
     firsts = {prefixes[0]: prefixes for prefixes in pairs.values()}
     # (an originator takes no route of its own prefix)
     own = {

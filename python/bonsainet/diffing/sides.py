@@ -16,6 +16,7 @@ from bonsainet.cli.command_line import Refused, printable, read_input
 from bonsainet.cli.words import counted
 from bonsainet.library import BonsaiError, ImportRefused, Network
 from bonsainet.library.calls import BONSAI, program
+from bonsainet.library.networks import judge
 
 if TYPE_CHECKING:
     from bonsainet.importing.decisions import Decisions
@@ -56,6 +57,11 @@ class Place:
             return self.title or ("standard input" if self.path == "-" else self.path)
         return f"{self.revision}:{self.path.removeprefix('./')}"
 
+    @property
+    def is_text(self) -> bool:
+        """Whether it is a file of now, or standard input."""
+        return self.revision is None and (self.path == "-" or os.path.isfile(self.path))
+
 
 def places(old: str, new: str | None) -> tuple[Place, Place] | None:
     """Where both sides are, by the words of the command line. None where the second is missing."""
@@ -88,9 +94,15 @@ def beside(word: str | None, side: Place) -> Place | None:
     return place_of(word)
 
 
-def network_at(side: Place, decisions: Place | None, own_as: bool, room: str | None = None) -> Network:
-    """The network of a side. Refused where it is not accepted, or is not there. What Git has of it stands for that time in
-    a folder below `room`."""
+def network_at(side: Place, decisions: Place | None, own_as: bool) -> Network:
+    """The network of a side. Refused where it is not accepted, or is not there."""
+    found = _network(side, decisions, own_as)
+    judge([found])
+    return found
+
+
+def _network(side: Place, decisions: Place | None, own_as: bool, room: str | None = None) -> Network:
+    """The network of a side, whose text is not judged. What Git has of it stands for that time in a folder below `room`."""
     if side.revision is None:
         if side.path != "-" and os.path.isdir(side.path):
             return _imported(side.path, side.name, decisions, own_as)
@@ -110,11 +122,17 @@ def network_at(side: Place, decisions: Place | None, own_as: bool, room: str | N
 def networks_at(
     sides: tuple[Place, Place], decisions: tuple[Place | None, Place | None], own_as: bool
 ) -> tuple[Network, Network]:
-    """Both networks. Of two folders the second is imported by a process of its own at the same time; where that fails, it is
-    imported here, which says what is refused."""
+    """Both networks. Refused where one of them is not accepted, or is not there."""
     # (the program is found once, and says once if it is not proved)
     program(BONSAI)
-    works = [functools.partial(network_at, side, each, own_as) for side, each in zip(sides, decisions)]
+    found = _networks(sides, [functools.partial(_network, side, each, own_as) for side, each in zip(sides, decisions)])
+    judge(found)
+    return found
+
+
+def _networks(sides: tuple[Place, Place], works: list[functools.partial[Network]]) -> tuple[Network, Network]:
+    """Both networks by these works. Of two folders the second is imported by a process of its own at the same time; where
+    that fails, it is imported here, which says what is refused."""
     if not all(side.revision is not None or os.path.isdir(side.path) for side in sides):
         return works[0](), works[1]()
     from bonsainet.cli.workers import workers
@@ -145,7 +163,7 @@ def _named(made: str, name: str, work: Callable[[], Network]) -> Network:
 
 
 def _text(raw: bytes, name: str) -> Network:
-    return Network.from_text(raw.decode("ascii", "surrogateescape"), name)
+    return Network(raw.decode("ascii", "surrogateescape"), name)
 
 
 def _imported(folder: str, name: str, decisions: Place | None, own_as: bool) -> Network:

@@ -4,8 +4,7 @@ from __future__ import annotations
 import argparse
 import json
 
-from bonsainet.ask.program import ALL
-from bonsainet.ask.shares import meanwhile, side_by_side
+from bonsainet.ask.shares import meanwhile
 from bonsainet.cli.command_line import parser, write_output
 from bonsainet.cli.memory import expect_many_objects
 from bonsainet.diffing.documents import document
@@ -71,17 +70,24 @@ def main(argv: list[str] | None = None) -> int:
     sides = places(given.old, given.new)
     if sides is None:
         made.error("NEW is missing: give two networks, or two revisions as OLD..NEW")
+    if all(side.revision is None and side.path == "-" for side in sides):
+        made.error("- names standard input, and can stand for one network only")
+    if given.html == "-":
+        made.error("--html takes a file: the answer is on standard output")
     decisions = given.old_decisions or given.decisions, given.decisions
+    if any(decisions) and all(side.is_text for side in sides):
+        made.error("decisions are for folders, and both networks are texts")
     with refusing():
         first, second = (beside(word, side) for side, word in zip(sides, decisions))
         old, new = networks_at(sides, (first, second), given.own_as)
         say_changes(NAME, old)
         say_changes(NAME, new)
-        found, reasons = compared(Pair(old, new))
+        both = Pair(old, new)
+        found, reasons = compared(both)
     if given.html:
         from bonsainet.diffing.page import page
 
-        made_page = page(old, new, found, reasons, program(ASK).identity).encode()
+        made_page = page(both, found, reasons, program(ASK).identity).encode()
         read = [place.path for place in (*sides, first, second) if place and place.revision is None]
         write_output(given.html, made_page, *read)
     if given.json:
@@ -95,8 +101,6 @@ def compared(both: Pair) -> tuple[Difference, Reasons]:
     """What changes, and how the networks differ. The programs work while the lines of both sides are read."""
     if both.old.text == both.new.text:
         return difference(both), reasons_of(both)
-    # (each program is found once, and not by several threads)
-    list(side_by_side(program, (ASK, ALL)))
     with meanwhile(lambda: both.states, lambda: both.canons):
         assert all(network.links is not None for network in both.parsed)
     return difference(both), reasons_of(both)

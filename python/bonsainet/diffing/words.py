@@ -61,7 +61,7 @@ def prefix_lines(found: PrefixChange, is_long: bool = True) -> Iterator[str]:
             yield f"{when} there is no stable solution, so no routes are compared"
     shown = found.changes if is_long or len(found.changes) <= CHANGES_SHOWN + 1 else found.changes[:CHANGES_SHOWN]
     for change in shown:
-        yield from change_lines(change, is_long)
+        yield from change_lines(change, is_long, (found.before.is_whole, found.after.is_whole))
     left = [router for change in found.changes[len(shown) :] for router in change.routers]
     if left:
         yield f"and {counted(len(left), 'router changes', 'routers change')} in other ways: {listed(left, is_long)}"
@@ -77,12 +77,13 @@ def tie_words(tie: Tie) -> str:
     return f"{tie.router} has tied routes that differ in their {'communities' if tie.by == 'communities' else 'paths'}"
 
 
-def change_lines(change: Change, is_long: bool = True) -> Iterator[str]:
-    """A change of routers: a line for it, and one for what holds in all of several solutions."""
+def change_lines(change: Change, is_long: bool = True, are_whole: tuple[bool, bool] = (True, True)) -> Iterator[str]:
+    """A change of routers: a line for it, and one for what holds in all of several solutions, or in all that are read."""
     yield f"{change.kind.value} {listed(change.routers, is_long)}: {change_words(change)}"
-    for when, routes in (("before", change.before), ("after", change.after)):
+    for when, routes, is_whole in zip(("before", "after"), (change.before, change.after), are_whole):
         if len(routes) > 1:
-            yield f"  in all solutions {when}: {_common_words(routes)}"
+            which = "all" if is_whole else f"the first {MOST_SOLUTIONS}"
+            yield f"  in {which} solutions {when}: {_common_words(routes)}"
 
 
 def change_words(change: Change) -> str:
@@ -94,7 +95,11 @@ def change_words(change: Change) -> str:
     if len(change.before) == len(change.after) == 1:
         (before,), (after,) = change.before, change.after
         assert before and after
-        return ", ".join(_from_to(aspect, before.aspects[aspect], after.aspects[aspect]) for aspect in change.aspects)
+        # (a route of OSPF and one of BGP have nothing in common but their next hops)
+        if before.aspects.keys() == after.aspects.keys():
+            return ", ".join(
+                _from_to(aspect, before.aspects[aspect], after.aspects[aspect]) for aspect in change.aspects
+            )
     return f"{_any_of(change.before)} -> {_any_of(change.after)}"
 
 

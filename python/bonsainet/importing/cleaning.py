@@ -31,6 +31,7 @@ LONG_LINE = rule(
     "long-line", "a text for people may be cut at 1,000 bytes", "the profile takes lines of at most 1,024 bytes"
 )
 
+PAGED = re.compile(r"-[\s-]*\(?[Mm]ore|\x08")
 MORE = re.compile(r"^\s*<?-[\s-]*\(?[Mm]ore\b[^-]*-+>?\s*(?:\r|\x08|\x1b\[[0-9;]*[A-Za-z])*")
 PROMPTED = re.compile(
     r"^[A-Za-z0-9][\w.-]*(?:/\w+)?(?:\([\w.-]+\))?[#>](?:\s*(?:sh|show|term|terminal|wr|write|more|exit|quit|logout|en|enable|copy)\b.*)?\s*$"
@@ -53,17 +54,29 @@ FREE_TEXT = (
     "banner",
 )
 LONGEST = 1000
-PLAIN = re.compile(r"[\t\x20-\x7e]*")
+PLAIN = re.compile(r"[\t\n\x20-\x7e]*")
+LONG = re.compile(rf"\n[^\n]{{{LONGEST + 1}}}")
 
 
 def cleaned(lines: list[Line], log: Log, is_frr: bool) -> list[Line]:
-    """The lines of a file without what is no line of a configuration."""
-    found = list(_without_paging(lines, log))
-    if not is_frr:
-        found = list(_without_banners(found, log))
-    found = list(_without_prompts(found, log))
-    found = list(_without_certificates(found, log))
-    return [_ascii(line, log) for line in found]
+    """The lines of a file without what is no line of a configuration. Each kind is looked for in the whole text first, as
+    most files have few of them."""
+    text = _text_of(lines)
+    if PAGED.search(text):
+        lines = list(_without_paging(lines, log))
+        text = _text_of(lines)
+    if not is_frr and "\nbanner" in text:
+        lines = list(_without_banners(lines, log))
+    if "#" in text or ">" in text or "\nsh" in text:
+        lines = list(_without_prompts(lines, log))
+    if "certificate" in text:
+        lines = list(_without_certificates(lines, log))
+    return lines if PLAIN.fullmatch(text) and not LONG.search(text) else [_ascii(line, log) for line in lines]
+
+
+def _text_of(lines: list[Line]) -> str:
+    """The text of lines, with the end of a line before each."""
+    return "".join([f"\n{line.text}" for line in lines])
 
 
 def _without_paging(lines: list[Line], log: Log) -> Iterator[Line]:

@@ -66,7 +66,9 @@ class Source(Router):
         return as_number(process.head.words[2]) if process and len(process.head.words) > 2 else None
 
 
-Up = dict[IPv4Address, tuple[Source, Stanza]]
+SHUTDOWN = ["shutdown"]
+# (by their addresses as numbers, which are compared at once)
+Up = dict[int, tuple[Source, Stanza]]
 
 
 @dataclasses.dataclass
@@ -94,7 +96,7 @@ class Folder:
     def up(self) -> Up:
         """The up interfaces by their addresses."""
         return {
-            address.ip: (router, stanza)
+            int(address): (router, stanza)
             for router in self.routers
             for stanza in router.interfaces
             if (address := address_of(stanza))
@@ -146,7 +148,7 @@ def address_of(stanza: Stanza) -> IPv4Interface | None:
 
 
 def _address_if_up(body: list[Line]) -> IPv4Interface | None:
-    return None if any(line.words == ["shutdown"] for line in body) else _address_in(body)
+    return None if any(line.words == SHUTDOWN for line in body) else _address_in(body)
 
 
 def _address_in(body: list[Line]) -> IPv4Interface | None:

@@ -11,7 +11,7 @@ from bonsainet.ask.program import TOP
 
 PAGE = TOP / "docs" / "use" / "LINES.md"
 SCOPES = {"top": "top", "interface": "interface", "router bgp": "bgp", "router ospf": "ospf", "route-map": "entry"}
-Heads = dict[str, dict[int, set[tuple[str, ...]]]]
+ANY = ("*", "NAME")
 
 
 @functools.cache
@@ -33,24 +33,34 @@ def heads_of(title: str) -> dict[str, tuple[tuple[str, ...], ...]]:
     return found
 
 
-def longest(words: list[str], heads: tuple[tuple[str, ...], ...]) -> int:
-    """The length of the longest head that begins the words, 0 where none does. `*` and `NAME` stand for any word."""
-    by_words = _by_words(heads)
-    near = [head for key in (tuple(words[:1]), tuple(words[:2])) for head in by_words.get(key, ())]
+def longest(words: list[str], title: str, scope: str) -> int:
+    """The length of the longest head of a table that begins the words, 0 where none does. `*` and `NAME` stand for any
+    word."""
+    near = _near(title, scope)
+    if tuple(words[:1]) not in near:
+        return 0
+    keys = (tuple(words[:1]), tuple(words[:2]), (*words[:1], "*", *words[2:3]))
     fitting = (
         len(head)
-        for head in near
-        if len(words) >= len(head) and all(want in ("*", "NAME", word) for want, word in zip(head, words))
+        for key in keys
+        for head in near.get(key, ())
+        if len(words) >= len(head) and all(want in ANY or want == word for want, word in zip(head, words))
     )
     return max(fitting, default=0)
 
 
 @functools.cache
-def _by_words(heads: tuple[tuple[str, ...], ...]) -> dict[tuple[str, ...], list[tuple[str, ...]]]:
-    """The heads by their first two words, or the first one where the second is none or stands for any."""
+def _near(title: str, scope: str) -> dict[tuple[str, ...], list[tuple[str, ...]]]:
+    """The heads of a scope of a table by their first word alone, by their first two, or, where any word may be second, by
+    the first and the third. Each first word is a key."""
     found: dict[tuple[str, ...], list[tuple[str, ...]]] = {}
-    for head in heads:
-        found.setdefault(head[: 1 if head[1:2] in ((), ("*",), ("NAME",)) else 2], []).append(head)
+    for head in heads_of(title).get(scope, ()):
+        alone = found.setdefault(head[:1], [])
+        is_any = head[1:2] in (("*",), ("NAME",))
+        if len(head) == 1 or (is_any and (len(head) == 2 or head[2] in ANY)):
+            alone.append(head)
+        else:
+            found.setdefault((head[0], "*", head[2]) if is_any else head[:2], []).append(head)
     return found
 
 
@@ -58,5 +68,5 @@ def _by_words(heads: tuple[tuple[str, ...], ...]) -> dict[tuple[str, ...], list[
 def is_ignored(scope: str, text: str) -> bool:
     """Whether the program passes over a line of a scope."""
     words = text.split()
-    ignored = longest(words, heads_of("Ignored lines").get(scope, ()))
-    return ignored > 0 and ignored >= longest(words, heads_of("Refused lines, and what to do with them").get(scope, ()))
+    ignored = longest(words, "Ignored lines", scope)
+    return ignored > 0 and ignored >= longest(words, "Refused lines, and what to do with them", scope)

@@ -1,14 +1,16 @@
 """The program's verdict on the text: router by router, and then on the whole network."""
 from __future__ import annotations
 
+import dataclasses
 import re
 from collections.abc import Callable
 
-from bonsainet.cli.progress import counted_off
+from bonsainet.cli.progress import counted_off, progress
 from bonsainet.importing.folder import Folder, Source
 from bonsainet.lines.heads import remedy_of, scope_under
 from bonsainet.lines.remedies import IMPORT
 from bonsainet.ask.program import Program
+from bonsainet.ask.rounds import set_aside_refused
 from bonsainet.configs.text import Line, Place, Stanza, text_of
 
 PROGRAM = "program"
@@ -23,7 +25,9 @@ def judge(folder: Folder, program: Program, excuse: Excuse) -> None:
 
     `excuse` may take a refused stanza out of the router for good, with a rule's reason; then it is none.
     """
-    if not folder.log.refusals and program.refusal(text_of(folder.routers)) is None:
+    with progress("text judged"):
+        is_accepted = not folder.log.refusals and program.refusal(text_of(folder.routers)) is None
+    if is_accepted:
         return
     for router in counted_off("routers judged", len(folder.routers), folder.routers):
         judge_router(folder, router, program, excuse)
@@ -36,16 +40,50 @@ def judge_router(folder: Folder, router: Source, program: Program, excuse: Excus
     refused = {found.place for found in folder.log.refusals}
     aside = [line for line in router.lines if line.place in refused]
     aside += [line for found in list(aside) for line in _consequences(router, found)]
-    while found := program.refusal(text_of([Source(router.name, _without(router.stanzas, aside))])):
-        line, stanza = _line_at(_without(router.stanzas, aside), found.line)
-        if line is None or stanza is None:
-            folder.log.refuse(_first(router), PROGRAM, f"the program refuses this router: {found.kind}", found.kind)
-            return
-        original = next(kept for kept in router.stanzas if kept.head is stanza.head)
-        if not excuse(folder, router, original, line):
-            scope = "top" if line is original.head else scope_under(original.head.text)
-            folder.log.refuse(line, PROGRAM, _why(found.kind, scope, line), found.kind)
-            aside += [line, *_consequences(router, line)]
+    found = set_aside_refused(program, _Remainder(folder, router, excuse, aside))
+    if found:
+        folder.log.refuse(_first(router), PROGRAM, f"the program refuses this router: {found.kind}", found.kind)
+
+
+@dataclasses.dataclass(frozen=True, eq=False)
+class _Refused:
+    """A refused line and its stanza. Two are never the same: what is set aside is refused no more."""
+
+    line: Line
+    stanza: Stanza
+
+
+@dataclasses.dataclass(frozen=True)
+class _Remainder:
+    """What stays of a router whose refused lines are set aside."""
+
+    folder: Folder
+    router: Source
+    excuse: Excuse
+    aside: list[Line]
+
+    def text(self) -> str:
+        """The text of what stays."""
+        return text_of([Source(self.router.name, self._stanzas())])
+
+    def spot(self, line: int) -> _Refused | None:
+        """The line of that number in the text of what stays, with its stanza in the router."""
+        found, stanza = _line_at(self._stanzas(), line)
+        if found is None or stanza is None:
+            return None
+        return _Refused(found, next(kept for kept in self.router.stanzas if kept.head is stanza.head))
+
+    def refuse(self, spot: _Refused, kind: str) -> bool:
+        """Sets a line aside, unless it is excused."""
+        line, stanza = spot.line, spot.stanza
+        if not self.excuse(self.folder, self.router, stanza, line):
+            scope = "top" if line is stanza.head else scope_under(stanza.head.text)
+            self.folder.log.refuse(line, PROGRAM, _why(kind, scope, line), kind)
+            self.aside.extend([line, *_consequences(self.router, line)])
+        return True
+
+    def _stanzas(self) -> list[Stanza]:
+        return _without(self.router.stanzas, self.aside)
 
 
 def _first(router: Source) -> Line:
@@ -90,7 +128,7 @@ def _opener(folder: Folder, line: Line) -> str | None:
     return next((stanza.head.text for stanza in stanzas if any(line is found for found in stanza.body)), None)
 
 
-def _line_at(stanzas: list[Stanza], number: int | None) -> tuple[Line | None, Stanza | None]:
+def _line_at(stanzas: list[Stanza], number: int) -> tuple[Line | None, Stanza | None]:
     at = 0
     for stanza in stanzas:
         for line in stanza.lines:

@@ -2,6 +2,8 @@
 one."""
 from __future__ import annotations
 
+from collections.abc import Iterator
+
 from bonsainet.importing.folder import Folder, Source
 from bonsainet.configs.text import Line
 
@@ -10,23 +12,29 @@ SAME = "same-name"
 
 def refuse_same_names(folder: Folder) -> bool:
     """Refuses each router whose host name an earlier one has, and says whether there is one."""
+    found = list(same_names(folder))
+    for other, router in found:
+        folder.log.refuse(_name_line(router), SAME, told_of_same(other, router))
+    if found:
+        folder.log.remarks.append("nothing else was judged: first each router needs a name of its own")
+    return bool(found)
+
+
+def same_names(folder: Folder) -> Iterator[tuple[Source, Source]]:
+    """Each router whose host name an earlier one has, behind that one."""
     first: dict[str, Source] = {}
-    has_same = False
     for router in folder.routers:
         other = first.setdefault(router.name, router)
         if other is not router:
-            folder.log.refuse(_name_line(router), SAME, _told(other, router))
-            has_same = True
-    if has_same:
-        folder.log.remarks.append("nothing else was judged: first each router needs a name of its own")
-    return has_same
+            yield other, router
 
 
 def _name_line(router: Source) -> Line:
     return next(router.with_head("hostname")).head
 
 
-def _told(other: Source, router: Source) -> str:
+def told_of_same(other: Source, router: Source) -> str:
+    """What is told of a router whose host name an earlier one has."""
     place = _name_line(other).place
     where = f"{place}" if place.line else place.file
     told = f"{where} has the host name {other.name} too"

@@ -20,6 +20,7 @@ from bonsainet.cli.progress import counted_off
 from bonsainet.importing.cleaning import cleaned
 from bonsainet.importing.daemons import without_stopped
 from bonsainet.importing.folder import Dialect, Folder, Source
+from bonsainet.importing.names import same_names, told_of_same
 from bonsainet.importing.rule import Log, rule
 from bonsainet.configs.text import Line, Place, Stanza, lines_of
 
@@ -86,21 +87,21 @@ FRR_TOP = re.compile(
     r"no bgp send-extra-data|banner|segment-routing|username|bfd|nexthop-group|pbr-map|mpls ldp|l2vpn|dump|rpki|allow-reserved-ranges|zebra|no zebra|no log|pseudowire|msdp|exit-vnc)(?=\s|$)"
 )
 FRR_LEAVES = re.compile(r"(exit|quit|exit-vrf|exit-route-map|exit-interface|exit-router)$")
+# (of texts with the end of a line before each line)
 FRR_SIGNS = re.compile(
-    r"^\s*(frr version|frr defaults|service integrated-vtysh-config|bgp community-list|no bgp ebgp-requires-policy)",
-    re.MULTILINE,
+    r"\n\s*(frr version|frr defaults|service integrated-vtysh-config|bgp community-list|no bgp ebgp-requires-policy)"
 )
 OTHERS = (
-    ("NX-OS", re.compile(r"^(feature (bgp|ospf|interface-vlan|lacp)|vdc \S+ id )", re.MULTILINE)),
-    ("Arista EOS", re.compile(r"^(! device: .*EOS|service routing protocols model)", re.MULTILINE)),
-    ("IOS XR", re.compile(r"^(!! IOS XR|interface MgmtEth|route-policy )", re.MULTILINE)),
+    ("NX-OS", re.compile(r"\n(feature (bgp|ospf|interface-vlan|lacp)|vdc \S+ id )")),
+    ("Arista EOS", re.compile(r"\n(! device: .*EOS|service routing protocols model)")),
+    ("IOS XR", re.compile(r"\n(!! IOS XR|interface MgmtEth|route-policy )")),
     (
         "Junos",
-        re.compile(
-            r"^(## Last commit|set (system|interfaces|protocols) |(system|interfaces|protocols) \{)", re.MULTILINE
-        ),
+        re.compile(r"\n(## Last commit|set (system|interfaces|protocols) |(system|interfaces|protocols) \{)"),
     ),
 )
+# The first words of lines that a router has, and of stanzas whose parts are put together.
+OF_ROUTERS = {"hostname", "interface", "router", "int"}
 
 
 class _Reading:
@@ -131,14 +132,18 @@ class _Reading:
             self.refused.append(str(refused))
 
     def ended(self, name: str) -> Folder:
-        """What was read. Refused where a file cannot be read as routers, all such files at once, or where there is no
-        router."""
+        """What was read. Refused where a file cannot be read as routers, all such files at once and with them the copies
+        of routers, or where there is no router."""
         hint = "what is no router's can be moved elsewhere, or left out by --skip"
+        if self.refused:
+            self.refused += [
+                f"{router.file}: {told_of_same(other, router)}" for other, router in same_names(self.folder)
+            ]
         if len(self.refused) == 1:
             raise Refused(f"{self.refused[0]}; {hint}")
         if self.refused:
             raise Refused(
-                f"{name}: {len(self.refused)} files cannot be read as routers; {hint}",
+                f"{name}: {len(self.refused)} files cannot be read as routers of their own; {hint}",
                 [f"  {one_line(it)}" for it in self.refused],
             )
         if not self.folder.routers:
@@ -259,30 +264,23 @@ def _lines(path: Path, name: str, folder: Folder) -> list[Line]:
     except UnicodeDecodeError:
         text = data.decode("latin-1")
     lines = lines_of(text, name)
-    folder.raw.update((line.place, line.text) for line in lines)
+    folder.raw.update({line.place: line.text for line in lines})
     return lines
 
 
 def _routers_of_file(path: Path, name: str, folder: Folder, is_frr: bool, stem: str) -> list[Source]:
     lines = _lines(path, name, folder)
-    text = "\n".join(line.text for line in lines)
+    text = "\n" + "\n".join([line.text for line in lines])
     is_frr = is_frr or bool(FRR_SIGNS.search(text))
     for system, signs in OTHERS:
         if not is_frr and signs.search(text):
             raise Refused(
                 f"{name}: written for {system}, whose lines and defaults are others; configurations of Cisco IOS and FRR are read"
             )
-    lines = cleaned(lines, folder.log, is_frr)
-    pieces: list[list[Line]] = [[]]
-    for line in lines:
-        if line.words == ["end"]:
-            folder.log.by(line, END)
-            pieces.append([])
-        else:
-            pieces[-1].append(line)
+    pieces = _pieces(cleaned(lines, folder.log, is_frr), folder.log)
     found: list[Source] = []
     for piece in pieces:
-        if not any(line.words[:1] in (["hostname"], ["interface"], ["router"], ["int"]) for line in piece):
+        if not any(line.words and line.words[0] in OF_ROUTERS for line in piece):
             stray = [line for line in piece if not line.is_blank]
             if stray and len(pieces) > 1 and not found:
                 raise Refused(f"{name}:{stray[0].place.line}: no router in these lines: {stray[0].text.strip()[:40]!r}")
@@ -297,22 +295,36 @@ def _routers_of_file(path: Path, name: str, folder: Folder, is_frr: bool, stem: 
     return found
 
 
+def _pieces(lines: list[Line], log: Log) -> list[list[Line]]:
+    """The lines between lines `end`."""
+    pieces: list[list[Line]] = []
+    begin = 0
+    for at in [at for at, line in enumerate(lines) if line.words == ["end"]]:
+        log.by(lines[at], END)
+        pieces.append(lines[begin:at])
+        begin = at + 1
+    return [*pieces, lines[begin:]]
+
+
 def _ios_stanzas(lines: list[Line], log: Log) -> list[Stanza]:
     """Stanzas by indentation. Comments between an open stanza and its next line stay inside it."""
-    stanzas: list[Stanza] = []
-    waiting: list[Line] = []
+    parts: list[tuple[Line, list[Line]]] = []
+    body: list[Line] | None = None
+    blank: Line | None = None
     for line in lines:
         if line.is_blank:
-            waiting.append(line)
+            blank = blank or line
         elif line.words == ["exit"]:
             log.by(line, EXIT)
-        elif line.is_indented and stanzas:
-            stanzas[-1].body.append(line)
-            waiting = []
+        elif body is not None and line.is_indented:
+            body.append(line)
+            blank = None
         else:
-            stanzas += [Stanza(blank) for blank in waiting[:1]] + [Stanza(line)]
-            waiting = []
-    return stanzas
+            if blank:
+                parts.append((blank, []))
+            body, blank = [], None
+            parts.append((line, body))
+    return [Stanza(head, own) for head, own in parts]
 
 
 def _frr_stanzas(lines: list[Line], log: Log) -> list[Stanza]:
@@ -358,18 +370,20 @@ def _finish(router: Source, stem: str, folder: Folder) -> None:
     kept: dict[tuple[str, ...], Stanza] = {}
     stanzas = []
     for stanza in router.stanzas:
-        key = tuple(stanza.head.words)
-        if key[:1] in (("int",), ("interface",)):
-            key = ("interface", *key[1:])
-        if key[:1] in (("interface",), ("router",), ("hostname",)) and key in kept:
+        words = stanza.head.words
+        if not words or words[0] not in OF_ROUTERS:
+            stanzas.append(stanza)
+            continue
+        key = ("interface" if words[0] == "int" else words[0], *words[1:])
+        if key in kept:
             folder.log.cut([stanza.head, *stanza.body], MERGED)
             kept[key].body += stanza.body
         else:
-            kept.setdefault(key, stanza)
+            kept[key] = stanza
             stanzas.append(stanza)
-    named = [stanza for stanza in stanzas if stanza.starts("hostname") and len(stanza.head.words) == 2]
+    named = [key[1] for key in kept if key[0] == "hostname" and len(key) == 2]
     if named:
-        router.name = named[0].head.words[1]
+        router.name = named[0]
     else:
         name = re.sub(r"[^A-Za-z0-9_.-]", "-", stem).lstrip("-_.")[:63] or "router"
         router.name = name

@@ -62,6 +62,8 @@ class Report:
     @property
     def shown_changes(self) -> list[Change]:
         """The changes as the report tells them."""
+        if not self.is_scrubbed:
+            return list(self.changes)
         return [
             dataclasses.replace(
                 change, before=self._shown(change.before), after=tuple(self._shown(text) for text in change.after)
@@ -71,8 +73,10 @@ class Report:
 
     @property
     def shown_assumptions(self) -> list[Assumption]:
-        """The assumptions as the report tells them."""
-        return [dataclasses.replace(found, text=self._shown(found.text)) for found in self.folder.log.assumptions]
+        """The assumptions as the report tells them, in the order of the lines."""
+        files = {file: at for at, file in enumerate(dict.fromkeys(place.file for place in self.folder.raw))}
+        found = [dataclasses.replace(it, text=self._shown(it.text)) for it in self.folder.log.assumptions]
+        return sorted(found, key=lambda it: (files.get(it.place.file, len(files)), it.place.line))
 
     @property
     def text(self) -> str:
@@ -132,16 +136,22 @@ class Report:
 
 def report_of(folder: Folder) -> Report:
     """Compares what was read with what stands now. Silent where a line changed and no rule says why."""
-    stands: dict[Place, list[Line]] = defaultdict(list)
+    stands: dict[Place, Line] = {}
+    more: dict[Place, list[Line]] = defaultdict(list)
     for router in folder.routers:
         for line in router.lines:
-            stands[line.place].append(line)
+            if line.place in stands:
+                more[line.place].append(line)
+            else:
+                stands[line.place] = line
     refused = {found.place for found in folder.log.refusals}
+    told: dict[tuple[int, ...], tuple[str, str]] = {}
     changes = []
     for place, raw in folder.raw.items():
-        now = stands.get(place, [])
-        if len(now) == 1 and now[0].text == raw:
+        first = stands.get(place)
+        if first is not None and first.text == raw and place not in more:
             continue
+        now = [first, *more.get(place, ())] if first is not None else []
         before, after = " ".join(raw.split()), [" ".join(line.words) for line in now]
         rules = folder.log.touched.get(place, [])
         if place in refused:
@@ -152,16 +162,11 @@ def report_of(folder: Folder) -> Report:
             continue
         if not rules:
             raise Silent(f"{place}: {before!r} became {after!r} and no rule says why; this is a fault of bonsai-import")
-        changes.append(
-            Change(
-                place,
-                raw,
-                tuple(after),
-                ", ".join(found.name for found in rules),
-                "; ".join(found.reason for found in rules),
-            )
-        )
-    return Report(tuple(change for change in changes if change.rule), folder)
+        key = tuple(map(id, rules))
+        if key not in told:
+            told[key] = ", ".join(found.name for found in rules), "; ".join(found.reason for found in rules)
+        changes.append(Change(place, raw, tuple(after), *told[key]))
+    return Report(tuple(changes), folder)
 
 
 def place_text(place: Place) -> str:

@@ -14,6 +14,8 @@ def rewrite(stanza: Stanza, log: Log, decide: Callable[[Line], Decision], words:
     """Rewrites the body: `decide` gives a rule and the texts that stand for the line, or none where it stays. Where first
     words are given it is asked about lines with one of these alone."""
     asked = stanza.body if words is None else _beginning(stanza, words)
+    if not asked:
+        return
     decided = [None if line.is_blank else decide(line) for line in asked]
     if not any(decided):
         return
@@ -33,10 +35,12 @@ def rewrite(stanza: Stanza, log: Log, decide: Callable[[Line], Decision], words:
 
 def _beginning(stanza: Stanza, words: Collection[str]) -> list[Line]:
     """The lines of the body that begin with one of some words, in their order."""
-    near = stanza.by_word.keys() & words
+    by_word = stanza.by_word
+    fewer, other = (words, by_word) if len(words) < len(by_word) else (by_word, words)
+    near = [word for word in fewer if word in other]
     if len(near) > 1:
         return [line for line in stanza.body if line.words and line.words[0] in near]
-    return stanza.by_word[near.pop()] if near else []
+    return by_word[near[0]] if near else []
 
 
 def cut_lines(
@@ -54,6 +58,7 @@ def any_begins(routers: Iterable[Router], heads: tuple[str, ...]) -> bool:
         begins(line, heads)
         for router in routers
         for stanza in router.stanzas
+        if stanza.body
         for word in words
         for line in stanza.by_word.get(word, ())
     )

@@ -16,31 +16,36 @@ from bonsainet.importing.rules.costs import KBITS, NO_COST
 from bonsainet.importing.rules.neighbors import INTERNAL, MASKS, MULTIHOP
 from bonsainet.importing.rules.own_as import SHARED
 from bonsainet.importing.rules.undefined import UNDEFINED
-from bonsainet.configs.text import Stanza
+from bonsainet.configs.text import Place, Stanza
 
 HEAD = """# Decisions for bonsai-import --decisions. Each is about a refused line, and none counts yet: take out the # before
 # the last line of each, complete it and give the reason. What is dropped is gone from the network that is asked about.
 """
 OTHER_AREA = "OtherArea"
 SESSIONS = (INTERNAL, MASKS, MULTIHOP, "ipv6-peer")
-WHOLE = (["match"], ["set"], ["ip", "address"], ["vrf"], ["ip", "vrf"])
+WHOLE = (["match"], ["ip", "address"], ["vrf"], ["ip", "vrf"])
 REASON = 'because ""'
 
 
 def skeleton(folder: Folder, refused: list[Refusal]) -> str:
     """The skeleton for some refusals, as the report has them."""
     parts = [HEAD]
+    gone: set[Place] = set()
     for found in refused:
         place = f"{found.place}" if found.place.line else found.place.file
-        lines = [f"{place}: {found.text}", f"  {found.reason}", *_decisions(folder, found)]
+        router, stanza = _around(folder, found)
+        told = list(_decisions(folder, found, router, stanza))
+        if router and stanza and _is_dropped_whole(found, stanza):
+            gone.add(stanza.head.place)
+            told += _of_emptied_map(folder, router, stanza, gone)
+        lines = [f"{place}: {found.text}", f"  {found.reason}", *told]
         parts.append("\n" + "".join(f"# {printable(line)}\n" for line in lines))
     return "".join(parts)
 
 
-def _decisions(folder: Folder, found: Refusal) -> Iterator[str]:
+def _decisions(folder: Folder, found: Refusal, router: Source | None, stanza: Stanza | None) -> Iterator[str]:
     """What a person can decide of a refused line."""
     at = f"at {_quoted(found.place.file)}"
-    router, stanza = _around(folder, found)
     words = found.text.split()
     if found.name == SHARED:
         yield "  run with --own-as, or leave the router's file out by --skip"
@@ -54,10 +59,34 @@ def _decisions(folder: Folder, found: Refusal) -> Iterator[str]:
         yield f"undefined {at} {_quoted(found.reason.partition(' ')[0], True)} permit|deny {REASON}"
     elif found.name in SESSIONS and words[:1] == ["neighbor"]:
         yield f"drop {at} {_quoted(f'neighbor {words[1]} *', True)} {REASON}"
-    elif stanza and (found.name == PROTECTED or any(words[: len(head)] == head for head in WHOLE)):
+    elif stanza and _is_dropped_whole(found, stanza):
         yield f"drop {at} {_quoted(' '.join(stanza.head.words), True)} {REASON}"
     else:
         yield f"{'drop!' if found.name == GUARDED else 'drop'} {at} {_quoted(' '.join(words), True)} {REASON}"
+
+
+def _is_dropped_whole(found: Refusal, stanza: Stanza) -> bool:
+    """Whether the stanza of a refused line can be dropped, and the line by itself cannot."""
+    words = found.text.split()
+    return stanza.head.place != found.place and (
+        found.name == PROTECTED or any(words[: len(head)] == head for head in WHOLE)
+    )
+
+
+def _of_emptied_map(folder: Folder, router: Source, stanza: Stanza, gone: set[Place]) -> Iterator[str]:
+    """What the name of a map means of which no entry is left."""
+    head, name = stanza.head.words[:2]
+    process = router.process("bgp")
+    if head != "route-map" or not process or all([head, name] != line.words[2:4] for line in process.body):
+        return
+    entries = {place for place in folder.raw if place.file == stanza.head.place.file and _opens(folder, place, name)}
+    if entries <= gone:
+        yield "  no entry of the map is left then, so its name takes a decision too: deny is what such a map does"
+        yield f"undefined at {_quoted(stanza.head.place.file)} {_quoted(name, True)} deny|permit {REASON}"
+
+
+def _opens(folder: Folder, place: Place, name: str) -> bool:
+    return folder.raw[place].split()[:2] == ["route-map", name]
 
 
 def _of_cost(folder: Folder, router: Source, stanza: Stanza, found: Refusal, at: str) -> Iterator[str]:

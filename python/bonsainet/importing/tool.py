@@ -12,7 +12,7 @@ import sys
 from collections.abc import Iterator
 
 from bonsainet.cli.command_line import ESCAPED, Refused, parser, printable, shown, write_output
-from bonsainet.cli.progress import counted_off
+from bonsainet.cli.progress import counted_off, progress
 from bonsainet.importing.decisions import Decisions, apply_drops, decisions_in
 from bonsainet.importing.folder import Folder, Source
 from bonsainet.importing.guard import guarded
@@ -36,7 +36,7 @@ REPORT = re.compile(
 )
 PURPOSE = """Reads the running configurations of routers (Cisco IOS, FRR) and writes one text that Bonsai reads.
 
-Only what says the same is written otherwise; each line that did not reach the text unchanged stands in the report, which goes
+Only what says the same is written otherwise; each line that did not reach the text unchanged is in the report, which goes
 to standard error. Where a line can change routes and no rule can write it, nothing is written and the status is 1; a file of
 decisions can drop such lines, each with a reason. docs/use/IMPORT.md lists the rules."""
 
@@ -46,7 +46,8 @@ def import_folder(
 ) -> Report:
     """Reads a folder, works through all rules and asks the program. The report's folder has the routers as they stand
     at the end."""
-    return imported(read_folder(name), program, decisions, options)
+    with without_collection():
+        return imported(read_folder(name), program, decisions, options)
 
 
 def imported(
@@ -54,7 +55,8 @@ def imported(
 ) -> Report:
     """Works through all rules on a folder that was read, asks the program, and reports what changed."""
     work(folder, program, decisions, options)
-    return dataclasses.replace(report_of(folder), is_scrubbed=bool(options and options.scrub))
+    with progress("lines compared"):
+        return dataclasses.replace(report_of(folder), is_scrubbed=bool(options and options.scrub))
 
 
 def work(folder: Folder, program: Program, decisions: Decisions | None = None, options: Options | None = None) -> None:
@@ -179,6 +181,11 @@ def _imported_by(words: argparse.Namespace) -> Report:
 
 def main(argv: list[str] | None = None) -> int:
     """Runs the tool."""
+    with without_collection():
+        return _main(argv)
+
+
+def _main(argv: list[str] | None) -> int:
     made = command_line()
     words = made.parse_args(argv)
     if len(words.given) > 1 and any(os.path.isdir(name) for name in words.given):
@@ -188,7 +195,8 @@ def main(argv: list[str] | None = None) -> int:
     except (Refused, NotAnswered, OSError, KeyboardInterrupt) as fault:
         mark_old_report(words.report, words.json, str(fault) or "interrupted")
         raise
-    told = report.json if words.json else report.text
+    with progress("report made"):
+        told = report.json if words.json else report.text
     if words.report:
         _refuse_own(words.report, words.given, report)
         write_output(words.report, told.encode("utf-8", ESCAPED), words.decisions or "-")

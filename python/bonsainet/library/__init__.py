@@ -2,8 +2,11 @@
 
 `import bonsainet` gives all of its names.
 """
+from __future__ import annotations
+
+from typing import TYPE_CHECKING
+
 from bonsainet.ask.labels import BgpLabel, OspfLabel
-from bonsainet.importing.report import Report
 from bonsainet.library.answers import Answer, Labels, Loss, Reply, Tie
 from bonsainet.library.changes import Change, Difference, Kind, PrefixChange, Side, diff
 from bonsainet.library.classes import DestClass, Group, Size
@@ -20,6 +23,9 @@ from bonsainet.library.errors import (
 from bonsainet.library.networks import Network
 from bonsainet.library.questions import AllQuestions, Questions
 from bonsainet.library.routes import Aspect, Route
+
+if TYPE_CHECKING:
+    from bonsainet.importing.report import Report
 
 __all__ = [
     "AllQuestions",
@@ -53,3 +59,12 @@ __all__ = [
     "WordsRefused",
     "diff",
 ]
+
+
+def __getattr__(name: str) -> object:
+    """The report of an import, which loads where it is used: the rules of the import load with it."""
+    if name != "Report":
+        raise AttributeError(f"module {__name__!r} has no attribute {name!r}")
+    from bonsainet.importing.report import Report as found
+
+    return found

@@ -31,7 +31,9 @@ class Kind(enum.Enum):
 @dataclasses.dataclass(frozen=True)
 class Change:
     """Routers whose routes change alike: what each may hold before and after, none standing for no route, and in what that
-    differs. Where there is one route before and one after, both have nothing but what differs."""
+    differs. Where there is one route before and one after, both have nothing but what differs. On a side with more solutions
+    than are read a router may hold other routes too: it is not named where the other side may have those that are read.
+    """
 
     kind: Kind
     routers: tuple[str, ...]
@@ -152,7 +154,7 @@ def _compared(before: State, after: State, comparison: Comparison) -> PrefixChan
     alike: dict[Change, list[str]] = {}
     # (where there is no stable solution, there is nothing to compare)
     for name, old, new in comparison.differing(before, after) if before.solutions and after.solutions else ():
-        found = _change(old, new)
+        found = _change(old, new) if _is_seen(before, after, old, new) else None
         if found:
             alike.setdefault(found, []).append(name)
     shown = [Side(state.solutions, state.is_whole, state.tie) for state in (before, after)]
@@ -162,6 +164,11 @@ def _compared(before: State, after: State, comparison: Comparison) -> PrefixChan
         return None
     changes = tuple(dataclasses.replace(change, routers=tuple(names)) for change, names in alike.items())
     return PrefixChange((), changes, *shown)
+
+
+def _is_seen(before: State, after: State, old: Routes, new: Routes) -> bool:
+    """Whether routes differ by what is read. In solutions that are not read a router may hold what it holds on the other side."""
+    return not (not before.is_whole and old <= new or not after.is_whole and new <= old)
 
 
 @functools.lru_cache(KEPT)

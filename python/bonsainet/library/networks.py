@@ -25,6 +25,7 @@ from bonsainet.ask.program import (
     sizes_of,
 )
 from bonsainet.ask.program import Answer as Said
+from bonsainet.ask.shares import side_by_side
 from bonsainet.asking.questions import questions_of
 from bonsainet.cli.command_line import Refused
 from bonsainet.asking.reports import ClassAnswer, Count, Part, reports_of
@@ -134,11 +135,7 @@ class Network:
 
     @functools.cached_property
     def _listed(self) -> list[Class]:
-        said = call(BONSAI, ["classes", "F"], self.text, self.name)
-        made = read(classes_of, said)
-        if [found.number for found in made] != list(range(1, len(made) + 1)):
-            raise ProgramFailed(said.status, "the program did not count the classes from 1")
-        return made
+        return _classes_of(self)
 
     @property
     def is_bgp(self) -> bool:
@@ -246,6 +243,22 @@ class Network:
             for found, size in zip(self.classes, sizes)
         ]
         return pandas.DataFrame(rows, columns=COLUMNS).set_index("class")
+
+
+def judge(networks: Iterable[Network]) -> None:
+    """Judges networks, all at the same time. TextRefused for the first whose text the program does not accept."""
+    left = [network for network in networks if "_listed" not in vars(network)]
+    for network, listed in zip(left, side_by_side(_classes_of, left)):
+        # (a cached property is found out of one network at a time)
+        vars(network)["_listed"] = listed
+
+
+def _classes_of(network: Network) -> list[Class]:
+    said = call(BONSAI, ["classes", "F"], network.text, network.name)
+    made = read(classes_of, said)
+    if [found.number for found in made] != list(range(1, len(made) + 1)):
+        raise ProgramFailed(said.status, "the program did not count the classes from 1")
+    return made
 
 
 def _reply(line: int, words: tuple[str, ...], parts: tuple[Part, ...]) -> Reply:

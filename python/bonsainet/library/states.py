@@ -4,7 +4,7 @@ from __future__ import annotations
 import dataclasses
 import functools
 import re
-from collections.abc import Iterable, Iterator, Mapping, Sequence
+from collections.abc import Iterable, Mapping, Sequence
 
 from bonsainet.ask.program import IS_DONE, Status
 from bonsainet.ask.shares import processors, side_by_side
@@ -20,6 +20,7 @@ __all__ = ["MOST_SOLUTIONS", "Held", "State", "states_of"]
 SOLUTIONS, FORWARDS = "solutions", "forwards"
 # (a range has at least so many classes, since each process reads the text)
 CLASSES_EACH = 256
+ROUTE_MAP = b"route-map"
 BEHIND_COMMUNITY = re.compile(rb"community([^\n]*)")
 FIRST_COMMUNITIES = range(1, 1 << 16)
 
@@ -80,7 +81,7 @@ class _Share:
 
 def states_of(networks: Sequence[Network]) -> list[dict[int, State]]:
     """The states of all classes of each network, by their numbers. Processes share the classes; none is there for one class
-    alone, unless the one before it has more than 64 solutions."""
+    alone, unless the one before it has far more than 64 solutions."""
     # (the program is found once, and not by several threads)
     program(ASK)
     shares = [
@@ -119,50 +120,56 @@ def spans(count: int) -> list[tuple[int, int]]:
 
 def _done(share: _Share) -> dict[int, _Read]:
     """What the program writes of each class, with ties among the solutions."""
-    found = dict.fromkeys(range(share.first, share.last + 1), Written()) | dict(_read(share))
+    found = dict.fromkeys(range(share.first, share.last + 1), Written()) | _read(share)
     ties: dict[int, Tie | None] = {}
     if share.task == SOLUTIONS:
         ties = _ties(share.network, [number for number, written in found.items() if written.is_whole])
     return {number: (written, ties.get(number)) for number, written in found.items()}
 
 
-def _read(share: _Share) -> Iterator[tuple[int, Written]]:
-    """What the program writes of the classes that have solutions. It is asked again behind a class with too many of them."""
-    first = share.first
-    while first <= share.last:
-        found = dict(_written(share.network, f"{first}-{share.last}", share.task))
+def _read(share: _Share) -> dict[int, Written]:
+    """What the program writes of the classes that have solutions. It is asked again behind a class with far too many."""
+    every: dict[int, Written] = {}
+    first, is_whole = share.first, False
+    while not is_whole and first <= share.last:
+        found, is_whole = _written(share.network, f"{first}-{share.last}", share.task)
         if found and not first <= min(found) <= max(found) <= share.last:
             raise ProgramFailed(Status.DONE, f"{ASK} wrote of classes for which it was not asked")
-        yield from found.items()
-        first = next((number + 1 for number, written in found.items() if not written.is_whole), share.last + 1)
+        every |= found
+        first = max(found, default=first) + 1
+    return every
 
 
-def _written(network: Network, classes: str, task: str) -> Iterator[tuple[int, Written]]:
-    """What the program writes, class by class."""
+def _written(network: Network, classes: str, task: str) -> tuple[dict[int, Written], bool]:
+    """What the program writes, class by class, and whether that is all."""
     wrong = None
     with errors_of(network.name, network.text):
         with program(ASK).output("F", classes, task, texts={"F": network.raw}) as stream:
             try:
-                yield from read(stream)
+                return read(stream)
             except ValueError as fault:
                 # (where the program failed, the context says so at its end)
                 wrong = fault
-    if wrong:
-        raise ProgramFailed(Status.DONE, f"the program wrote what is of no known form: {wrong}") from wrong
+    raise ProgramFailed(Status.DONE, f"the program wrote what is of no known form: {wrong}") from wrong
 
 
 def _ties(network: Network, numbers: list[int]) -> dict[int, Tie | None]:
-    """The ties of these classes. Costs do not tie: routes of one cost differ in nothing."""
-    if not network.is_bgp:
+    """The ties of these classes."""
+    if not numbers or not may_tie(network):
         return {}
-    found: dict[int, Tie | None] = {}
-    for first, last in runs(numbers):
-        said = call(ASK, ["F", f"{first}-{last}", *always_true(network)], network.text, network.name, done=IS_DONE)
-        with reading(said):
-            (report,) = reports_of(said.text)
-            ties = {part.number: part.tie for part in report.parts if isinstance(part, ClassAnswer)}
-            found |= {number: ties[number] for number in range(first, last + 1)}
-    return found
+    question = " ".join(always_true(network))
+    asked = "".join(f"{first}-{last} {question}\n" for first, last in runs(numbers))
+    said = call(ASK, ["F", "questions", "S"], network.text, network.name, asked, IS_DONE)
+    with reading(said):
+        parts = [part for report in reports_of(said.text) for part in report.parts]
+        ties = {part.number: part.tie for part in parts if isinstance(part, ClassAnswer)}
+        return {number: ties[number] for number in numbers}
+
+
+def may_tie(network: Network) -> bool:
+    """Whether two routes may be as good as one another and yet differ. Routes of OSPF with one cost differ in nothing. Routes
+    of BGP differ in communities, or in lone routers on their paths, where route maps make it so."""
+    return network.is_bgp and ROUTE_MAP in network.raw
 
 
 def always_true(network: Network) -> tuple[str, ...]:

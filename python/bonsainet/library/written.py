@@ -8,6 +8,8 @@ from collections.abc import Iterator, Sequence
 from typing import IO
 
 MOST_SOLUTIONS = 64
+# (further ones of a class are passed over up to so many: behind more the program is started anew, and reads the text again)
+MOST_PASSED = 256
 BLOCK = 1 << 20
 CLASS = b"\nclass "
 HEAD = re.compile(rb"(\d+) solution (\d+)(?:\n|\Z)")
@@ -37,35 +39,42 @@ class Written:
         return found if isinstance(found, bytes) and self.is_whole else None
 
 
-def read(stream: IO[bytes]) -> Iterator[tuple[int, Written]]:
-    """The classes in a stream, each with its number. The last one is one with more than 64 solutions, if there is any: the
-    stream is not read any further. ValueError where what is written is of no known form."""
-    number, kept = 0, _Kept()
-    for of, place, lines in _solutions(stream):
-        if of < number or place != (1 if of != number else len(kept.solutions) + 1):
-            raise ValueError(f"class {of} solution {place} is not in its place")
-        if of != number and number:
-            yield number, Written(tuple(kept.solutions))
-        if of != number:
-            number, kept = of, _Kept()
-        if place > MOST_SOLUTIONS:
-            yield number, Written(tuple(kept.solutions), False)
-            return
+def read(stream: IO[bytes]) -> tuple[dict[int, Written], bool]:
+    """The classes in a stream by their numbers, and whether it was read to its end: it is not where the last of them has too
+    many solutions to pass over. ValueError where what is written is of no known form."""
+    found: dict[int, _Kept] = {}
+    last, is_whole = 0, True
+    for number, place, lines in _solutions(stream):
+        kept = found.setdefault(number, _Kept())
+        if number < last or place != kept.count + 1:
+            raise ValueError(f"class {number} solution {place} is not in its place")
+        last = number
         kept.add(lines)
-    if number:
-        yield number, Written(tuple(kept.solutions))
+        if kept.count > MOST_PASSED:
+            is_whole = False
+            break
+    return {number: kept.written for number, kept in found.items()}, is_whole
 
 
 class _Kept:
     """The solutions of a class. Of several each line is kept once, since routers hold few routes in many solutions."""
 
     def __init__(self) -> None:
+        self.count = 0
         self.solutions: list[bytes | tuple[bytes, ...]] = []
         self.lines: dict[bytes, bytes] = {}
 
+    @property
+    def written(self) -> Written:
+        """What is kept of the class."""
+        return Written(tuple(self.solutions), self.count <= MOST_SOLUTIONS)
+
     def add(self, lines: bytes) -> None:
         """Adds one."""
-        if len(self.solutions) == 1:
+        self.count += 1
+        if self.count > MOST_SOLUTIONS:
+            return
+        if self.count == 2:
             (first,) = self.solutions
             assert isinstance(first, bytes)
             self.solutions = [self._cut(first)]

@@ -28,9 +28,7 @@ def words() -> argparse.ArgumentParser:
         "Writes one page with all classes of a network: a table, ties, pictures, groups, and the compressed texts.",
     )
     add_text(made)
-    made.add_argument(
-        "--import-report", metavar="FILE", help="show what bonsai-import told: its report, as text or as JSON"
-    )
+    made.add_argument("--import-report", metavar="FILE", help="show what bonsai-import reported, as text or as JSON")
     made.add_argument("--no-ties", action="store_true", help="do not ask which routers hold a tied route")
     made.add_argument(
         "--no-answers",

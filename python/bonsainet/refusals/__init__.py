@@ -1,1 +1,1 @@
-"""All refusals of a text at once, each the verdict of the proved program on a text that is told."""
+"""All refusals of a text at once, each the verdict of the program on a text that the list names."""

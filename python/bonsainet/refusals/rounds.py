@@ -1,4 +1,4 @@
-"""Rounds of asking: a text is judged, the refused line or its stanza is set aside, and the rest is judged again.
+"""What stays of routers whose refused lines, or the stanzas of these, are set aside round by round.
 
 Where a refusal is that something lacks, it is put there and not taken away: a host name for NoHostname, an `end` for
 NoEnd.
@@ -10,6 +10,7 @@ import dataclasses
 from collections.abc import Sequence
 
 from bonsainet.ask.program import Program
+from bonsainet.ask.rounds import set_aside_refused
 from bonsainet.refusals.causes import cause_of
 from bonsainet.refusals.layout import END, openers, stanza_at
 
@@ -61,35 +62,38 @@ class Rest:
             self.aside.update(stanza_at(self.texts, place))
 
 
-def text_of(rests: Sequence[Rest]) -> str:
-    """The text of what stays."""
-    return "".join(f"{text}\n" for rest in rests for _, text in rest.numbered())
+@dataclasses.dataclass(frozen=True)
+class Text:
+    """What stays of routers that are judged as one text. With `only_last` a refusal in another router than the last ends
+    the rounds."""
+
+    rests: Sequence[Rest]
+    only_last: bool = False
+
+    def text(self) -> str:
+        """The text of what stays."""
+        return "".join(f"{text}\n" for rest in self.rests for _, text in rest.numbered())
+
+    def spot(self, line: int) -> tuple[int, int] | None:
+        """The router and the place in it of a line of the text of what stays."""
+        for number, rest in enumerate(self.rests):
+            lines = rest.numbered()
+            if line <= len(lines):
+                return number, lines[line - 1][0]
+            line -= len(lines)
+        return None
+
+    def refuse(self, spot: tuple[int, int], kind: str) -> bool:
+        """Notes the refusal of a router at a place, where it counts. Whether there are more rounds."""
+        number, place = spot
+        if self.only_last and number != len(self.rests) - 1:
+            return False
+        self.rests[number].refuse(place, kind)
+        return True
 
 
 def judge(program: Program, rests: Sequence[Rest], only_last: bool = False) -> str | None:
     """Judges routers as one text until nothing is refused. The kind where the text as a whole cannot be judged, else
-    none.
-
-    With `only_last` it stops at a refusal in another router than the last.
-    """
-    before: tuple[int, int, str] | None = None
-    while found := program.refusal(text_of(rests)):
-        at = _at(rests, found.line) if found.line is not None else None
-        if at is None or (*at, found.kind) == before:
-            return found.kind
-        number, place = at
-        if only_last and number != len(rests) - 1:
-            return None
-        rests[number].refuse(place, found.kind)
-        before = (number, place, found.kind)
-    return None
-
-
-def _at(rests: Sequence[Rest], line: int) -> tuple[int, int] | None:
-    """The router and the place in it of a line of the text of what stays."""
-    for number, rest in enumerate(rests):
-        lines = rest.numbered()
-        if line <= len(lines):
-            return number, lines[line - 1][0]
-        line -= len(lines)
-    return None
+    none."""
+    found = set_aside_refused(program, Text(rests, only_last))
+    return found.kind if found else None

@@ -19,10 +19,10 @@ from bonsainet.refusals.left import left_by_import
 LINK = re.compile(r"\[([^]]+)\]\(#[^)]*\)")
 PURPOSE = """Lists all refusals of a text or a folder at once, grouped by head with counts and remedies.
 
-Each is the verdict of the program on a text that is told. The first is that of `bonsai` on the whole. Then each router is judged
-alone: a refused line, of a top line its stanza, is set aside, and the rest judged again. Then two routers that name one thing
-twice are judged alone, and at the end the network as a whole. A refusal that comes only from setting another line aside is
-marked as its consequence. Of a folder it lists what bonsai-import would leave to a person, and with --raw what the program refuses in the folder as it stands. The status is 1 where anything is refused. docs/use/LINES.md explains kinds and heads."""
+Each is the verdict of the program on a text, and the list says which text. The first is that of `bonsai` on the whole. Then each
+router is judged alone: a refused line, of a top line its stanza, is set aside, and the rest judged again. Then two routers that
+name one thing twice are judged alone, and at the end the network as a whole. A refusal that comes only from setting another line
+aside is marked as its consequence. Of a folder it lists what bonsai-import would leave to a person, and with --raw what the program refuses in the folder as it stands. The status is 1 where anything is refused. docs/use/LINES.md explains kinds and heads."""
 
 
 def words() -> argparse.ArgumentParser:

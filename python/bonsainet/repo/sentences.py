@@ -1,7 +1,7 @@
 """`dev/sentences`: the prose of the pages has one sentence a line, and no line of it is longer than WIDTH.
 
 So a change of one sentence is a change of its lines alone. A sentence that is longer than a line goes on in the next one, behind a
-clause where there is one. Tables, code, headings and what tools write between marks are left as they are.
+clause where there is one. Tables, code and headings are left as they are, and what tools write between marks is theirs to write so.
 """
 from __future__ import annotations
 
@@ -95,11 +95,10 @@ def formed(page: str) -> str:
 
 def faults(name: str, page: str) -> list[str]:
     """Lines of a page that are too long, or have more than one sentence."""
-    found, is_code, is_marked = [], False, False
+    found, is_code = [], False
     for number, line in enumerate(page.splitlines(), 1):
         is_code ^= line.startswith("```")
-        is_marked = not END.match(line) and (is_marked or bool(MARKED.match(line)) and not is_code)
-        if is_code or is_marked or line.startswith(("|", "#", "!", "<", "```")):
+        if is_code or line.startswith(("|", "#", "!", "<", "```")):
             continue
         if len(line) > WIDTH:
             found.append(f"{name}:{number}: {len(line)} columns, and {WIDTH} is the most")

@@ -149,7 +149,8 @@ def _cost_lines(near: End) -> tuple[Line, ...]:
 def _bgp_lines(near: End, far: End) -> tuple[Line, ...]:
     """The lines of a session on which it hangs how its near end takes routes."""
     assert near.neighbor and far.neighbor
-    lines = [near.neighbor.line]
+    preference = near.device.own_bgp.preference_line
+    lines = [*([preference] if preference else []), near.neighbor.line]
     for end, words in ((far, ("list out", "map out", "sends")), (near, ("list in", "map in"))):
         assert end.neighbor
         named = end.neighbor

@@ -50,10 +50,14 @@ def words() -> argparse.ArgumentParser:
 
 def main(argv: list[str] | None = None) -> int:
     """Runs the tool."""
-    given = words().parse_args(argv)
+    made = words()
+    given = made.parse_args(argv)
+    place = place_of(given.network)
+    if given.decisions and place.is_text:
+        made.error("decisions are for a folder, and the network is a text")
     with refusing():
         decisions = place_of(given.decisions) if given.decisions else None
-        network = network_at(place_of(given.network), decisions, given.own_as)
+        network = network_at(place, decisions, given.own_as)
         say_changes(NAME, network)
         number = class_of(program(BONSAI).classes(network.raw), given.number, network.name).number
         reading = Reading.of_class(network.class_of(number))

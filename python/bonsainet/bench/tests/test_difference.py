@@ -6,6 +6,7 @@ from pathlib import Path
 import pytest
 
 from bonsainet.bench.difference import CASES, KEPT, PAGE, Case, Row, keep, read, table, with_table
+from bonsainet.repo.sentences import formed
 
 ROW = Row("now", "fat tree, BGP", "a session shut", "texts", 500, 200, 190, 3, 1.5, 0.75, 2.5, 3.2)
 
@@ -27,4 +28,4 @@ def test_rows_are_kept(tmp_path: Path) -> None:
 
 def test_the_page_has_the_table_of_what_is_kept() -> None:
     page = PAGE.read_text("utf-8")
-    assert KEPT.is_file() and with_table(page, *read()) == page and table(*read()) in page
+    assert KEPT.is_file() and with_table(page, *read()) == page and formed(table(*read())) in page

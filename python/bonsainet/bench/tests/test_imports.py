@@ -38,4 +38,5 @@ def test_the_table_takes_its_place() -> None:
 
 
 def test_the_page_has_a_place_for_the_table() -> None:
-    assert imports.MARKS.search(imports.PAGE.read_text("utf-8"))
+    page = imports.PAGE.read_text("utf-8")
+    assert imports.with_table(page, [], "today") != page

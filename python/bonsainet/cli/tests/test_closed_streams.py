@@ -78,11 +78,10 @@ def test_all_closed(name: str, tmp_path: Path) -> None:
 
 @pytest.mark.parametrize("name", TOOLS)
 def test_dash_where_standard_input_is_closed(name: str, tmp_path: Path) -> None:
-    words = [
-        word.replace("TEXT", "-").replace("BAD-FOLDER", "-").replace("BAD", "-").replace("MADE", str(tmp_path / "made"))
-        for word in TOOLS[name].split()
-    ]
-    command = ["/bin/sh", "-c", f'"$0" {" ".join(words)} <&-', str(TOP / "tools" / name)]
+    # (of two texts one is standard input)
+    words = TOOLS[name].replace("TEXT", "-", 1).replace("TEXT", str(place_of("fabric.cfg")))
+    words = words.replace("BAD-FOLDER", "-").replace("BAD", "-").replace("MADE", str(tmp_path / "made"))
+    command = ["/bin/sh", "-c", f'"$0" {words} <&-', str(TOP / "tools" / name)]
     done = subprocess.run(command, capture_output=True, timeout=LATEST, check=False)
     told = without_notices(done.stderr).decode()
     assert (done.returncode, done.stdout, told) == (3, b"", f"{name}: standard input: Bad file descriptor\n")

@@ -86,7 +86,7 @@ def test_an_empty_text(name: str, tmp_path: Path) -> None:
 )
 def test_a_broken_text(name: str, raw: bytes, told: str, tmp_path: Path) -> None:
     (tmp_path / "broken.cfg").write_bytes(raw)
-    refused(name, "broken.cfg", tmp_path, 1, f"{name}: broken.cfg: {told}; tools/bonsai-refusals tells all refusals\n")
+    refused(name, "broken.cfg", tmp_path, 1, f"{name}: broken.cfg: {told}; tools/bonsai-refusals lists all refusals\n")
 
 
 @pytest.mark.parametrize("name", WRITERS)

@@ -171,10 +171,11 @@ def test_a_tie() -> None:
     assert any(line.startswith("  tied before: leaf has tied routes") for line in found)
 
 
-def test_more_solutions_than_are_compared() -> None:
+def disagreements(count: int) -> str:
+    """A network of so many pairs of routers, each of which can come to rest in two ways."""
     pair = DISAGREE.split("hostname x\n")
     pieces = []
-    for number in range(7):
+    for number in range(count):
         piece = "hostname x\n" + pair[1]
         base = 4 * number
         for name in "xy":
@@ -182,7 +183,7 @@ def test_more_solutions_than_are_compared() -> None:
         piece = piece.replace("65002", str(65100 + base)).replace("65003", str(65101 + base))
         pieces.append(piece.replace("172.16.0.", f"172.16.{number}."))
     links, sessions = [], []
-    for number in range(7):
+    for number in range(count):
         for far, local, which in ((1, 0, 0), (3, 2, 1)):
             links.append(
                 f"interface GigabitEthernet{number}/{which}\n ip address 172.16.{number}.{local} 255.255.255.254\n"
@@ -195,7 +196,11 @@ def test_more_solutions_than_are_compared() -> None:
         + "".join(sessions)
         + "end\n"
     )
-    many = origin + "".join(pieces)
+    return origin + "".join(pieces)
+
+
+def test_more_solutions_than_are_compared() -> None:
+    many = disagreements(7)
     found = said(DISAGREE, many)
     assert "  stable solutions: 2 before, more than 64 after" in found
     assert "  the first 64 stable solutions are compared, and no tie is looked for in more" in found
@@ -211,6 +216,51 @@ def test_more_solutions_than_are_compared() -> None:
     ]
 
 
+def test_what_the_first_solutions_do_not_show() -> None:
+    """The first 64 of 128 have one route of the first pair, and the others have the other one."""
+    found = said(disagreements(6), disagreements(7))
+    assert found[:4] == [
+        "routers that are new: x6, y6",
+        "10.0.0.0/24",
+        "  stable solutions: 64 before, more than 64 after",
+        "  the first 64 stable solutions are compared, and no tie is looked for in more",
+    ]
+    named = {name for line in found if re.match("  (changed|lost|gained) ", line) for name in re.findall(r"\w+", line)}
+    assert "x6" in named and not named & {f"{name}{number}" for name in "xy" for number in range(6)} - {"y0"}
+    assert "    in the first 64 solutions after: a route" in found and not any("in all" in line for line in found)
+    assert not [line for line in said(disagreements(7), disagreements(6)) if line.startswith("  changed ")]
+
+
+def test_from_ospf_to_bgp() -> None:
+    """Routes of the two have nothing in common but their next hops."""
+    ospf = (
+        "hostname a\ninterface Vlan1\n ip address 10.0.0.1 255.255.255.0\ninterface Ethernet0\n"
+        " ip address 10.1.0.0 255.255.255.254\nrouter ospf 1\n network 10.0.0.0 0.255.255.255 area 0\nend\n"
+        "hostname b\ninterface Ethernet0\n ip address 10.1.0.1 255.255.255.254\n"
+        "router ospf 1\n network 10.0.0.0 0.255.255.255 area 0\nend\n"
+    )
+    first, second = ospf.replace("router ospf 1\n network 10.0.0.0 0.255.255.255 area 0\n", "@").split("@", 1)
+    bgp = (
+        f"{first}router bgp 65001\n network 10.0.0.0 mask 255.255.255.0\n neighbor 10.1.0.1 remote-as 65002\n"
+        + second.replace("@", "router bgp 65002\n neighbor 10.1.0.0 remote-as 65001\n")
+    )
+    assert said(ospf, bgp) == [
+        "prefixes that are gone: 10.1.0.0/31",
+        "10.0.0.0/24",
+        "  changed a: cost 1 -> preference 100 length 0",
+        "  changed b: cost 11 -> preference 100 length 1",
+        "10.1.0.0/31",
+        "  lost a, b: cost 10 here",
+        "2 prefixes change, 0 stay as they are",
+    ]
+    sides = [bonsainet.Network.from_text(text) for text in (ospf, bgp)]
+    words = [reason.words for reason in reasons_of(Pair(*sides)).reasons]
+    assert "a originates 10.0.0.0/24: in OSPF with cost 1 -> in BGP" in words
+    assert not any("None" in word for word in words)
+    assert "adjacency a Ethernet0 - b Ethernet0 (10.1.0.0/31) is gone: a has no OSPF process" in words
+    assert "session a Ethernet0 - b Ethernet0 (10.1.0.0/31) is new: before, a has no BGP process" in words
+
+
 def test_the_tool(tmp_path: Path) -> None:
     (tmp_path / "new.cfg").write_text(CAMPUS.replace(" ip ospf cost 5\n", " ip ospf cost 7\n"))
     ran = tool("bonsai-diff", INPUTS / "campus.cfg", tmp_path / "new.cfg")
@@ -220,6 +270,24 @@ def test_the_tool(tmp_path: Path) -> None:
     assert (same.returncode, same.stdout) == (0, f"{NOTHING[0]}\n".encode())
     written = tool("bonsai-diff", "--json", INPUTS / "campus.cfg", tmp_path / "new.cfg")
     jsonschema.validate(json.loads(written.stdout), SCHEMA)
+
+
+@pytest.mark.parametrize(
+    "name, words, told",
+    [
+        ("bonsai-diff", ("-", "-"), "can stand for one network only"),
+        ("bonsai-diff", (INPUTS / "campus.cfg", "-", "--html", "-"), "--html takes a file"),
+        ("bonsai-diff", (INPUTS / "campus.cfg", "-", "--decisions", "nowhere"), "both networks are texts"),
+        (
+            "bonsai-why",
+            (INPUTS / "campus.cfg", "1", "dist1", "dist2", "--decisions", "nowhere"),
+            "the network is a text",
+        ),
+    ],
+)
+def test_words_that_do_not_go_together(name: str, words: tuple[object, ...], told: str) -> None:
+    ran = tool(name, *words, raw=CAMPUS.encode())
+    assert (ran.returncode, ran.stdout) == (2, b"") and told in ran.stderr.decode()
 
 
 def test_folders_and_refusals(tmp_path: Path) -> None:
@@ -234,8 +302,9 @@ def test_folders_and_refusals(tmp_path: Path) -> None:
     assert bad.returncode == 1 and b"line 2: " in bad.stderr
 
 
-def test_no_process_is_there_for_each_class(monkeypatch: pytest.MonkeyPatch) -> None:
-    tree = text_of("fat-tree-4.cfg")
+@pytest.mark.parametrize("more, ties", [("", []), ("route-map R permit 10\n", ["questions S"])])
+def test_no_process_is_there_for_each_class(more: str, ties: list[str], monkeypatch: pytest.MonkeyPatch) -> None:
+    tree = edited(text_of("fat-tree-4.cfg"), "end\n", f"{more}end\n", "agg0-0")
     sides = [
         bonsainet.Network.from_text(text) for text in (tree, edited(tree, " send-community", " shutdown", "agg0-0"))
     ]
@@ -244,7 +313,7 @@ def test_no_process_is_there_for_each_class(monkeypatch: pytest.MonkeyPatch) -> 
 
     def run(words: list[str], **named: Any) -> Any:
         at = next((at for at, word in enumerate(words) if word.startswith("/proc/self/fd/")), len(words))
-        asked.append(" ".join(words[at + 1 :]))
+        asked.append(re.sub(r"/proc/self/fd/\d+", "S", " ".join(words[at + 1 :])))
         return started(words, **named)
 
     # (each program is found once, by its launcher)
@@ -253,8 +322,7 @@ def test_no_process_is_there_for_each_class(monkeypatch: pytest.MonkeyPatch) -> 
     monkeypatch.setattr(subprocess, "Popen", run)
     found, _ = compared(Pair(*sides))
     assert len(found.changed) == 2 and len(sides[0].classes) == 8
-    ties = "1-8 lacks 0:1 edge0-0"
-    assert sorted(asked) == sorted(2 * ["1-8 solutions", "1-8 forwards", ties, "canon 1 8"])
+    assert sorted(asked) == sorted(2 * ["1-8 solutions", "1-8 forwards", *ties, "canon 1 8"])
 
 
 def test_many_names_are_counted() -> None:

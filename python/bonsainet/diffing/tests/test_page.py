@@ -10,7 +10,7 @@ from bonsainet.diffing.page import page
 from bonsainet.diffing.pictures import COLORS, GONE, NEW, Drawer
 from bonsainet.diffing.reasons import reasons_of
 from bonsainet.library.calls import ASK, program
-from bonsainet.library.changes import Kind
+from bonsainet.library.changes import Kind, difference
 from bonsainet.library.pairs import Pair
 
 CAMPUS = (TOP / "examples" / "inputs" / "campus.cfg").read_text()
@@ -26,7 +26,7 @@ def test_each_router_keeps_its_place() -> None:
     other = CAMPUS.replace(" ip ospf cost 5\n", " shutdown\n", 1).replace("hostname core2\n", "hostname core9\n")
     old, new = bonsainet.Network.from_text(CAMPUS), bonsainet.Network.from_text(other)
     found = bonsainet.diff(old, new)
-    drawer = Drawer(old, new)
+    drawer = Drawer(Pair(old, new))
     for change in found.changed[:3]:
         made = drawer.draw(change)
         before, after = texts_of(made.before), texts_of(made.after)
@@ -41,10 +41,12 @@ def test_the_page() -> None:
     old, new = bonsainet.Network.from_text(CAMPUS, "old"), bonsainet.Network.from_text(
         CAMPUS.replace(" ip ospf cost 5\n", " ip ospf cost 7\n"), "<new>"
     )
-    made = page(old, new, bonsainet.diff(old, new), reasons_of(Pair(old, new)), program(ASK).identity)
+    both = Pair(old, new)
+    made = page(both, difference(both), reasons_of(both), program(ASK).identity)
     assert made.count("<svg") == 4 and COLORS[Kind.CHANGED] in made
     assert "changed core1, core2, dist1: cost 6 -&gt; 8" in made
     assert "&lt;new&gt;" in made and "<new>" not in made
     assert "http://" not in re.sub(r'xmlns="[^"]*"', "", made) and "<script" not in made
-    same = page(old, old, bonsainet.diff(old, old), reasons_of(Pair(old, old)), program(ASK).identity)
-    assert "0 prefixes change, 19 stay as they are." in same and "<svg" not in same
+    nothing = Pair(old, old)
+    made = page(nothing, difference(nothing), reasons_of(nothing), program(ASK).identity)
+    assert "0 prefixes change, 19 stay as they are." in made and "<svg" not in made

@@ -188,5 +188,5 @@ def test_a_text_that_is_refused() -> None:
     assert (ran.returncode, ran.stdout) == (1, b"")
     assert (
         ran.stderr
-        == b"bonsai-doubts: standard input: refused: line 2: Unsupported; tools/bonsai-refusals tells all refusals\n"
+        == b"bonsai-doubts: standard input: refused: line 2: Unsupported; tools/bonsai-refusals lists all refusals\n"
     )

@@ -192,7 +192,7 @@ def test_formats_and_streams(tmp_path) -> None:
         (
             ["campus-with-static-route.cfg", "1"],
             1,
-            b"campus-with-static-route.cfg: refused: line 28: Unsupported; tools/bonsai-refusals tells all refusals\n",
+            b"campus-with-static-route.cfg: refused: line 28: Unsupported; tools/bonsai-refusals lists all refusals\n",
         ),
     ],
 )

@@ -1,7 +1,7 @@
 """Attributes of BGP routes that the profile has not: what sets them is cut where nothing in the folder can tell."""
 from __future__ import annotations
 
-from bonsainet.importing.folder import Dialect, Folder, Source, Up, as_number
+from bonsainet.importing.folder import Dialect, Folder, Source, Up, as_number, has
 from bonsainet.importing.rewriting import any_begins, begins, cut_lines
 from bonsainet.importing.rule import rule
 from bonsainet.importing.rules.neighbors import peers_of
@@ -46,12 +46,14 @@ COMPARES = (
 
 def med(folder: Folder, _options: Options) -> None:
     """Cuts `set metric` where no router compares two metrics."""
-    up = folder.up
-    if any_begins(folder.routers, COMPARES) or any(_has_two(router, up) for router in folder.routers):
+    entries = [
+        stanza for router in folder.routers for stanza in router.with_head("route-map") if has(stanza, "set", "metric")
+    ]
+    up = folder.up if entries else {}
+    if not entries or any_begins(folder.routers, COMPARES) or any(_has_two(router, up) for router in folder.routers):
         return
-    for router in folder.routers:
-        for stanza in router.with_head("route-map"):
-            cut_lines(stanza, folder.log, MED, lambda line: line.words[:2] == ["set", "metric"], ("set",))
+    for stanza in entries:
+        cut_lines(stanza, folder.log, MED, lambda line: line.words[:2] == ["set", "metric"], ("set",))
 
 
 def set_order(folder: Folder, _options: Options) -> None:
@@ -90,8 +92,12 @@ def _has_two(router: Source, up: Up) -> bool:
 
 def extra_communities(folder: Folder, _options: Options) -> None:
     """Cuts what sets extended and large communities, and tags, where nothing asks for them."""
-    if any_begins(folder.routers, ASKS):
-        return
-    for router in folder.routers:
-        for stanza in router.with_head("route-map"):
+    entries = [
+        stanza
+        for router in folder.routers
+        for stanza in router.with_head("route-map")
+        if any(begins(line, SETS) for line in stanza.by_word.get("set", ()))
+    ]
+    if entries and not any_begins(folder.routers, ASKS):
+        for stanza in entries:
             cut_lines(stanza, folder.log, EXTENDED, lambda line: begins(line, SETS), ("set",))

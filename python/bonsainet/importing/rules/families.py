@@ -54,6 +54,9 @@ def _lift(folder: Folder, router: Source, process: Stanza) -> None:
     own: list[Line] = []
     lifted: list[Line] = []
     family: Line | None = None
+    if "address-family" not in process.by_word and "exit-address-family" not in process.by_word:
+        _cut_exports(folder, process)
+        return
     for line in process.body:
         if line.words[:1] == ["address-family"]:
             family = line
@@ -72,6 +75,11 @@ def _lift(folder: Folder, router: Source, process: Stanza) -> None:
         else:
             folder.log.cut([line], OTHER)
     process.body = own + lifted
+    _cut_exports(folder, process)
+
+
+def _cut_exports(folder: Folder, process: Stanza) -> None:
+    """Cuts what is exported to VPNs, where nothing comes from them."""
     if not has(process, "import", "vpn") and not has(process, "import", "vrf"):
         cut_lines(process, folder.log, VPN_EXPORT, lambda line: begins(line, EXPORTS), first_words(EXPORTS))
 
@@ -135,10 +143,8 @@ def _named(process: Stanza, *head: str) -> set[str]:
 
 def _goes(line: Line, inactive: set[str]) -> bool:
     words = line.words
-    if words[:4] == ["no", "bgp", "default", "ipv4-unicast"] or words[:3] == ["bgp", "default", "ipv4-unicast"]:
-        return True
-    if words[:2] == ["no", "neighbor"] and words[3:4] == ["activate"]:
-        return True
-    return (words[:1] == ["neighbor"] and words[1] in inactive) or (
-        words[:2] == ["no", "neighbor"] and words[2] in inactive
-    )
+    if words[0] == "neighbor":
+        return words[1] in inactive
+    if words[:2] == ["no", "neighbor"]:
+        return words[3:4] == ["activate"] or words[2] in inactive
+    return words[:4] == ["no", "bgp", "default", "ipv4-unicast"] or words[:3] == ["bgp", "default", "ipv4-unicast"]

@@ -1,6 +1,7 @@
 """Filters of BGP routes: access lists and distribute lists as prefix lists, numbers of entries, community lists."""
 from __future__ import annotations
 
+import functools
 import re
 from collections import defaultdict
 from collections.abc import Callable
@@ -60,6 +61,8 @@ ALONE = re.compile(r"_?(?:[0-9:|()*+?a-zA-Z-]|\[[0-9-]+\])+_?")
 def prefix_list_forms(folder: Folder, _options: Options) -> None:
     """Numbers entries of prefix lists that have no number, and cuts lines that only show numbers."""
     for router in folder.routers:
+        if not any(router.with_head("ip", "prefix-list")) and not any(router.with_head("no", "ip", "prefix-list")):
+            continue
         last: dict[str, int] = defaultdict(int)
         kept = []
         for stanza in router.stanzas:
@@ -90,6 +93,8 @@ def community_lists(folder: Folder, _options: Options) -> None:
     held = {word: name for name, word in folder.held.items()}
     used = sorted(_communities(folder), key=value_of)
     for router in folder.routers:
+        if not any(router.with_head("ip", "community-list")):
+            continue
         _order_by_number(folder, router)
         kept: list[Stanza] = []
         for stanza in router.stanzas:
@@ -178,7 +183,7 @@ def _number(stanza: Stanza) -> int | None:
 
 def access_lists(folder: Folder, _options: Options) -> None:
     """Writes distribute lists, and matches of access lists, as prefix lists."""
-    prefixes = sorted(all_prefixes(folder))
+    prefixes = functools.cache(lambda: sorted(all_prefixes(folder)))
     for router in folder.routers:
         made: dict[str, list[Stanza]] = {}
 
@@ -193,7 +198,7 @@ def access_lists(folder: Folder, _options: Options) -> None:
                             line, "access-list", f"the access list {name} has an entry that is no filter of prefixes"
                         )
                     return None
-                made[name] = _prefix_list(folder, f"ACCESS-{name}", aces, prefixes, router)
+                made[name] = _prefix_list(folder, f"ACCESS-{name}", aces, prefixes(), router)
             return f"ACCESS-{name}"
 
         process = router.process("bgp")

@@ -7,7 +7,7 @@ import functools
 from bonsainet.importing.folder import Folder
 from bonsainet.importing.rewriting import fits
 from bonsainet.importing.rules.options import Options
-from bonsainet.configs.text import Line
+from bonsainet.configs.text import Line, Stanza
 
 CUT_SHORT = "cut-short"
 TOP = {
@@ -60,7 +60,7 @@ def refuse_short(folder: Folder, _options: Options) -> None:
     """Refuses lines that have fewer words than their kind."""
     for router in folder.routers:
         short = [stanza.head for stanza in router.stanzas if _is_short(stanza.head, True)]
-        short += [line for stanza in router.stanzas for line in stanza.body if _is_short(line, False)]
+        short += [line for stanza in router.stanzas for line in _short_in(stanza)]
         for line in short:
             folder.log.refuse(line, CUT_SHORT, "the line has fewer words than a line of its kind")
         if not folder.log.refusals:
@@ -75,14 +75,31 @@ def refuse_short(folder: Folder, _options: Options) -> None:
             stanza.body = [line for line in stanza.body if id(line) not in gone]
 
 
+def _short_in(stanza: Stanza) -> list[Line]:
+    """The lines of a body that have fewer words than their kind."""
+    by_word = stanza.by_word
+    lines = [line for word in by_word.keys() & _by_first_word(False) for line in by_word[word]]
+    found = {id(line) for line in lines if _is_short(line, False)}
+    return [line for line in stanza.body if id(line) in found] if found else []
+
+
 def _is_short(line: Line, is_top: bool) -> bool:
-    count = len(line.words)
+    words = line.words
+    count = len(words)
     return (
         0 < count < MOST
         and not line.is_blank
-        and any(
-            count < least and fits(line.words, head) for head, least in _by_first_word(is_top).get(line.words[0], ())
+        and _is_cut_short(
+            is_top, count, (words[0], "*" if words[0] == "neighbor" else words[1] if count > 1 else "", *words[2:3])
         )
+    )
+
+
+@functools.lru_cache(maxsize=1 << 12)
+def _is_cut_short(is_top: bool, count: int, words: tuple[str, ...]) -> bool:
+    """Whether so many words are too few for a line that begins with these: no kind has a longer head."""
+    return any(
+        count < least and fits(list(words[:count]), head) for head, least in _by_first_word(is_top).get(words[0], ())
     )
 
 

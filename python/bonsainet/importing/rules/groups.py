@@ -35,18 +35,17 @@ def _unfold(folder: Folder, process: Stanza) -> None:
     rest: list[Line] = []
     for line in process.body:
         words = line.words
-        if words[:1] == ["neighbor"] and words[2:3] == ["peer-group"]:
+        first = words[0] if len(words) > 2 else ""
+        if first == "neighbor" and words[2] == "peer-group":
             folder.log.by(line, GROUP)
             own.setdefault(words[1], [])
             if len(words) > 3:
                 members[words[1]] = words[3]
             else:
                 groups.add(words[1])
-        elif words[:1] == ["neighbor"] and words[2:4] == ["interface", "peer-group"]:
+        elif first == "neighbor":
             own.setdefault(words[1], []).append(line)
-        elif words[:1] == ["neighbor"] and len(words) > 2:
-            own.setdefault(words[1], []).append(line)
-        elif words[:2] == ["no", "neighbor"] and len(words) > 3:
+        elif first == "no" and words[1] == "neighbor" and len(words) > 3:
             own.setdefault(words[2], []).append(line)
         else:
             rest.append(line)
@@ -86,8 +85,8 @@ def _setting(line: Line) -> tuple[str, ...]:
 
 
 def _merged(folder: Folder, peer: str, own: list[Line], inherited: list[Line]) -> list[Line]:
-    given = {_setting(line) for line in own}
     found = list(own)
+    given = {_setting(line) for line in own} if inherited else set()
     for line in inherited:
         if _setting(line) not in given:
             words = line.words
@@ -140,6 +139,8 @@ def _template_lines(name: Key, templates: dict[Key, list[Line]], seen: tuple[Key
 
 def _with_templates(folder: Folder, peer: str, lines: list[Line], templates: dict[Key, list[Line]]) -> list[Line]:
     kept = [line for line in lines if line.words[2:3] != ["inherit"]]
+    if len(kept) == len(lines):
+        return kept
     given = {_setting(line) for line in kept}
     inherited: dict[tuple[str, ...], Line] = {}
     for line in lines:

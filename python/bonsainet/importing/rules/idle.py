@@ -1,7 +1,9 @@
 """Lines without bearing that the program does not know: they are cut, each with its subject's reason."""
 from __future__ import annotations
 
+import dataclasses
 import functools
+from collections import defaultdict
 
 from bonsainet.importing.folder import Folder
 from bonsainet.importing.rewriting import fits, rewrite
@@ -10,7 +12,8 @@ from bonsainet.importing.rules.idle_heads import SUBJECTS, TIMERS
 from bonsainet.importing.rules.options import Options
 from bonsainet.configs.text import Line, Place, Stanza
 
-SCOPES = {("interface",): "interface", ("router", "bgp"): "bgp", ("router", "ospf"): "ospf", ("route-map",): "entry"}
+SCOPES = {"interface": "interface", "route-map": "entry"}
+PROTOCOLS = {"bgp": "bgp", "ospf": "ospf"}
 
 # A session or adjacency that waits for BFD comes up with it alone.
 STRICT = {"strict", "strict-mode"}
@@ -18,7 +21,20 @@ STRICT = {"strict", "strict-mode"}
 
 def scope_of(stanza: Stanza) -> str | None:
     """The scope of a stanza's body, or none for stanzas that the program does not open."""
-    return next((scope for head, scope in SCOPES.items() if stanza.starts(*head)), None)
+    words = stanza.head.words
+    if words[:1] == ["router"]:
+        return PROTOCOLS.get(words[1]) if len(words) > 1 else None
+    return SCOPES.get(words[0]) if words else None
+
+
+@dataclasses.dataclass
+class Near:
+    """The heads that begin with a word, each with the place of its subject: those of one word, and by their second word the
+    others, or by their third where any word may be second."""
+
+    alone: list[tuple[int, list[str]]] = dataclasses.field(default_factory=list)
+    by_second: dict[str, list[tuple[int, list[str]]]] = dataclasses.field(default_factory=lambda: defaultdict(list))
+    by_third: dict[str, list[tuple[int, list[str]]]] = dataclasses.field(default_factory=lambda: defaultdict(list))
 
 
 def subject_of(line: Line, scope: str) -> Rule | None:
@@ -27,28 +43,38 @@ def subject_of(line: Line, scope: str) -> Rule | None:
     near = _heads_of(scope).get(words[0]) if words else None
     if not near:
         return None
-    keys = ((words[0],), tuple(words[:2]), (words[0], "*", *words[2:3]))
-    found = [at for key in keys for at, head in near.get(key, ()) if fits(words, head)]
+    heads = near.alone
+    if len(words) > 1 and words[1] in near.by_second:
+        heads = heads + near.by_second[words[1]]
+    if len(words) > 2 and words[2] in near.by_third:
+        heads = heads + near.by_third[words[2]]
+    found = [at for at, head in heads if fits(words, head)]
     return SUBJECTS[min(found)].rule if found else None
 
 
 @functools.cache
-def _heads_of(scope: str) -> dict[str, dict[tuple[str, ...], list[tuple[int, list[str]]]]]:
-    """The heads of a scope by their first word, and then by their first two words, or three where any word may be
-    between, each with the place of its subject."""
-    found: dict[str, dict[tuple[str, ...], list[tuple[int, list[str]]]]] = {}
+def _heads_of(scope: str) -> dict[str, Near]:
+    """The heads of a scope by their first word."""
+    found: dict[str, Near] = defaultdict(Near)
     for at, subject in enumerate(SUBJECTS):
         for words in map(str.split, subject.heads(scope)):
-            near = found.setdefault(words[0], {})
-            near.setdefault(tuple(words[: 3 if words[1:2] == ["*"] else 2]), []).append((at, words))
-    return found
+            near = found[words[0]]
+            if len(words) == 1:
+                near.alone.append((at, words))
+            elif words[1] == "*":
+                near.by_third[words[2]].append((at, words))
+            else:
+                near.by_second[words[1]].append((at, words))
+    return dict(found)
 
 
 def cut_idle(folder: Folder, _options: Options) -> None:
     """Cuts lines without bearing, where the program does not ignore them by itself. What is refused stays."""
     refused = {found.place for found in folder.log.refusals}
     for router in folder.routers:
-        router.stanzas = [stanza for stanza in router.stanzas if not _is_cut(folder, stanza, refused)]
+        kept = [stanza for stanza in router.stanzas if not _is_cut(folder, stanza, refused)]
+        if len(kept) < len(router.stanzas):
+            router.stanzas = kept
 
 
 def _is_cut(folder: Folder, stanza: Stanza, refused: set[Place]) -> bool:

@@ -2,7 +2,6 @@
 from __future__ import annotations
 
 from collections import defaultdict
-from ipaddress import IPv4Address
 
 from bonsainet.importing.folder import Folder, Source, address_of, an_address, network_of
 from bonsainet.importing.rewriting import cut_lines
@@ -20,11 +19,11 @@ IDLE = rule(
 
 def cut_shared(folder: Folder, _options: Options) -> None:
     """Cuts addresses that several routers have and none uses."""
-    holders: dict[IPv4Address, list[tuple[Source, Stanza]]] = defaultdict(list)
+    holders: dict[int, list[tuple[Source, Stanza]]] = defaultdict(list)
     for router in folder.routers:
         for stanza in router.interfaces:
             if address := address_of(stanza):
-                holders[address.ip].append((router, stanza))
+                holders[int(address)].append((router, stanza))
     for those in holders.values():
         if len(those) > 1 and all(_is_idle(router, stanza) for router, stanza in those):
             for _, stanza in those:

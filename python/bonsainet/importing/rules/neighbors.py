@@ -4,8 +4,8 @@ from __future__ import annotations
 import dataclasses
 import functools
 from collections import defaultdict
-from collections.abc import Iterator
-from ipaddress import IPv4Address, IPv4Interface, IPv4Network
+from collections.abc import Callable, Iterator
+from ipaddress import IPv4Address, IPv4Network
 from operator import itemgetter
 
 from bonsainet.importing.folder import (
@@ -98,7 +98,9 @@ class Peer:
         """Whether both ends have an interface in one subnet."""
         if not self.far or not self.near:
             return False
-        return address_of(self.far[1]).network == address_of(self.near).network
+        far, near = address_of(self.far[1]), address_of(self.near)
+        mask = int(near.netmask)
+        return int(far.netmask) == mask and not (int(far) ^ int(near)) & mask
 
 
 class Ends:
@@ -107,13 +109,13 @@ class Ends:
     def __init__(self, folder: Folder) -> None:
         up = folder.up
         self.all = [peer for router in folder.routers for peer in peers_of(router, up)]
-        self.at = {(id(peer.router), peer.address): peer for peer in reversed(self.all)}
+        self.at = {(id(peer.router), int(peer.address)): peer for peer in reversed(self.all)}
 
     def back(self, peer: Peer) -> Peer | None:
         """The neighbour of the far router that names the near interface, or none."""
         if not peer.far or not peer.near:
             return None
-        return self.at.get((id(peer.far[0]), address_of(peer.near).ip))
+        return self.at.get((id(peer.far[0]), int(address_of(peer.near))))
 
     def session(self, peer: Peer) -> Peer | None:
         """The other end of a session that no line shuts, none where there is no such session. A stub is none: nothing is
@@ -131,7 +133,8 @@ def peers_of(router: Source, up: Up | None = None) -> Iterator[Peer]:
     own = _Subnets(router)
     for name, lines in process.fact(_named_neighbors).items():
         if address := an_address(name):
-            yield Peer(router, process, address, up.get(address) if up else None, own.of(int(address)), name, lines)
+            number = int(address)
+            yield Peer(router, process, address, up.get(number) if up else None, own.of(number), name, lines)
 
 
 class _Subnets:
@@ -141,8 +144,8 @@ class _Subnets:
         self.by_mask: dict[int, dict[int, list[tuple[int, int, Stanza]]]] = {}
         for place, stanza in enumerate(router.interfaces):
             if found := address_of(stanza):
-                base, mask, own = _numbers_of(found)
-                self.by_mask.setdefault(mask, {}).setdefault(base, []).append((place, own, stanza))
+                own, mask = int(found), int(found.netmask)
+                self.by_mask.setdefault(mask, {}).setdefault(own & mask, []).append((place, own, stanza))
 
     def of(self, address: int) -> Stanza | None:
         """The first interface in whose subnet an address is that is not its own."""
@@ -155,23 +158,17 @@ class _Subnets:
         return min(found, key=itemgetter(0))[1] if found else None
 
 
-@functools.lru_cache(maxsize=65536)
-def _numbers_of(found: IPv4Interface) -> tuple[int, int, int]:
-    """The network, the mask and the address of an interface as numbers."""
-    return int(found.network.network_address), int(found.netmask), int(found.ip)
-
-
 def _named_neighbors(body: list[Line]) -> dict[str, list[Line]]:
     """The neighbours that a line of their own names, each with its lines, those with `no` among them."""
     lines: dict[str, list[Line]] = defaultdict(list)
     names: dict[str, None] = {}
     for line in body:
         words = line.words
-        if words[:1] == ["neighbor"] and len(words) > 1:
+        if len(words) > 1 and words[0] == "neighbor":
             lines[words[1]].append(line)
             if len(words) > 2:
                 names[words[1]] = None
-        elif words[:2] == ["no", "neighbor"] and len(words) > 2:
+        elif len(words) > 2 and words[0] == "no" and words[1] == "neighbor":
             lines[words[2]].append(line)
     return {name: lines[name] for name in names}
 
@@ -185,8 +182,9 @@ def numbers(folder: Folder, _options: Options) -> None:
             rewrite(process, folder.log, _plain, ("neighbor",))
     up = folder.up
     for router in folder.routers:
+        own = router.number
         for peer in list(peers_of(router, up)):
-            _number(folder, peer)
+            _number(folder, peer, own)
 
 
 def _plain_head(folder: Folder, process: Stanza) -> None:
@@ -208,15 +206,15 @@ def _plain(line: Line) -> tuple[Rule, list[str]] | None:
     return None
 
 
-def _number(folder: Folder, peer: Peer) -> None:
+def _number(folder: Folder, peer: Peer, own: int | None) -> None:
     line = peer.line("remote-as")
     if not line:
         return
     word = line.words[3] if len(line.words) > 3 else ""
-    is_internal = word == "internal" or as_number(word) == peer.router.number
+    is_internal = word == "internal" or as_number(word) == own
     if word == "external":
         number = peer.far[0].number if peer.far else None
-        if number is None or number == peer.router.number:
+        if number is None or number == own:
             leave_out(folder, peer, ABSENT)
         else:
             rewrite(
@@ -314,7 +312,7 @@ def _is_own(peer: Peer, source: str) -> bool:
 
 def limits(folder: Folder, _options: Options) -> None:
     """Cuts limits on prefixes that are never reached, defaults, and what only says how communities are sent."""
-    count = len(all_prefixes(folder))
+    count = functools.cache(lambda: len(all_prefixes(folder)))
     ends = Ends(folder)
     own: dict[int, dict[str, Peer]] = defaultdict(dict)
     for peer in ends.all:
@@ -353,7 +351,7 @@ def all_prefixes(folder: Folder) -> set[IPv4Network]:
 
 
 def _limit(
-    folder: Folder, router: Source, peers: dict[str, Peer], line: Line, count: int
+    folder: Folder, router: Source, peers: dict[str, Peer], line: Line, count: Callable[[], int]
 ) -> tuple[Rule, list[str]] | None:
     words = line.words
     if (
@@ -371,13 +369,15 @@ def _limit(
         if peer and not peer.far:
             return ABSENT, []
         limit = int(words[3]) if words[3:] and words[3].isdecimal() else -1
-        if limit >= count:
+        if limit >= count():
             return LIMIT, []
         own = _stub_count(peer) if peer else None
         if own is not None and limit >= own:
             return STUB_LIMIT, []
         folder.log.refuse(
-            line, "maximum-prefix", f"the folder has {count} prefixes, so the limit can be reached and end the session"
+            line,
+            "maximum-prefix",
+            f"the folder has {count()} prefixes, so the limit can be reached and end the session",
         )
         return None
     if words[2] == "send-community" and words[3:] in (["both"], ["all"], ["standard"], ["large"], ["extended"]):

@@ -222,7 +222,7 @@ def is_unchecked(router: Source, process: Stanza) -> bool:
 
 
 def _originate(
-    folder: Folder, router: Source, process: Stanza, line: Line, prefix: IPv4Network, taken: set[IPv4Address]
+    folder: Folder, router: Source, process: Stanza, line: Line, prefix: IPv4Network, taken: set[int]
 ) -> None:
     static = next((stanza for stanza in router.with_head("ip", "route") if static_prefix(stanza.head) == prefix), None)
     unchecked = is_unchecked(router, process)
@@ -268,23 +268,22 @@ def _next_hop(line: Line) -> str:
     return next(iter(line.words[3 if "/" in line.words[2] else 4 :]), "")
 
 
-def _taken(folder: Folder) -> set[IPv4Address]:
-    """The addresses that an up interface has or a neighbour line names."""
+def _taken(folder: Folder) -> set[int]:
+    """The addresses that an up interface has or a neighbour line names, as numbers."""
     taken = set(folder.up)
     for router in folder.routers:
         for process in router.with_head("router", "bgp"):
-            taken |= {address for line in process.by_word.get("neighbor", ()) if (address := an_address(line.words[1]))}
+            named = {line.words[1] for line in process.by_word.get("neighbor", ())}
+            taken |= {int(address) for name in named if (address := an_address(name))}
     return taken
 
 
-def _free_address(prefix: IPv4Network, taken: set[IPv4Address]) -> IPv4Address | None:
+def _free_address(prefix: IPv4Network, taken: set[int]) -> IPv4Address | None:
     """The first address of a prefix that is not taken; it is taken from now on."""
     first_host = int(prefix.network_address) + (1 if prefix.prefixlen < 31 else 0)
-    candidates = (
-        IPv4Address(value)
-        for value in range(first_host, min(int(prefix.broadcast_address) + 1, first_host + len(taken) + 2))
-    )
-    found = next((address for address in candidates if address not in taken), None)
-    if found:
-        taken.add(found)
-    return found
+    behind = min(int(prefix.broadcast_address) + 1, first_host + len(taken) + 2)
+    found = next((value for value in range(first_host, behind) if value not in taken), None)
+    if found is None:
+        return None
+    taken.add(found)
+    return IPv4Address(found)

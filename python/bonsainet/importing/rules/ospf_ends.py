@@ -2,6 +2,8 @@
 check of the TTL."""
 from __future__ import annotations
 
+from collections.abc import Iterator
+
 from bonsainet.importing.folder import Folder, Source, address_of, first, has, indented, name_of
 from bonsainet.importing.rewriting import begins, cut_lines, first_words
 from bonsainet.importing.rule import rule
@@ -58,7 +60,7 @@ def _of_area(router: Source, process: Stanza, area: str) -> list[Stanza]:
 
 def ttl_security(folder: Folder, _options: Options) -> None:
     """Refuses the check of the TTL where not all ends of a link have it, and cuts it elsewhere."""
-    if not any(has(stanza, *head) for router in folder.routers for stanza in router.stanzas for head in HEADS):
+    if not any(has(stanza, *head) for stanza in _of_ospf(folder.routers) for head in HEADS):
         return
     for subnet, wire in active_wires(folder).items():
         lines = [_checks(end) for end in wire]
@@ -68,15 +70,21 @@ def ttl_security(folder: Folder, _options: Options) -> None:
                 told = f"{', '.join(without)} in {subnet} does not check the TTL, so its packets are dropped and there is no adjacency"
                 folder.log.refuse(line, REFUSED, told)
     refused = {found.place for found in folder.log.refusals if found.name == REFUSED}
-    for router in folder.routers:
-        for stanza in [*router.interfaces, *router.with_head("router", "ospf")]:
-            cut_lines(
-                stanza,
-                folder.log,
-                TTL,
-                lambda line: line.place not in refused and begins(line, TTL_LINES),
-                first_words(TTL_LINES),
-            )
+    for stanza in list(_of_ospf(folder.routers)):
+        cut_lines(
+            stanza,
+            folder.log,
+            TTL,
+            lambda line: line.place not in refused and begins(line, TTL_LINES),
+            first_words(TTL_LINES),
+        )
+
+
+def _of_ospf(routers: list[Source]) -> Iterator[Stanza]:
+    """The interfaces and the processes of OSPF."""
+    for router in routers:
+        yield from router.interfaces
+        yield from router.with_head("router", "ospf")
 
 
 def _checks(end: Active) -> Line | None:

@@ -38,6 +38,11 @@ SETS_MED = ("set metric", "default-metric", "set med")
 
 def med(folder: Folder, _options: Options) -> None:
     """Cuts how MEDs are compared where nothing sets one."""
+    processes = [process for router in folder.routers for process in router.with_head("router", "bgp")]
+    words = first_words(MED_LINES)
+    lines = [line for process in processes for word in words for line in process.by_word.get(word, ())]
+    if not any(begins(line, MED_LINES) for line in lines):
+        return
     given = any(
         "metric" in line.words
         for router in folder.routers
@@ -47,9 +52,8 @@ def med(folder: Folder, _options: Options) -> None:
     )
     if given or any_begins(folder.routers, SETS_MED):
         return
-    for router in folder.routers:
-        for process in router.with_head("router", "bgp"):
-            cut_lines(process, folder.log, NO_MED, lambda line: begins(line, MED_LINES), first_words(MED_LINES))
+    for process in processes:
+        cut_lines(process, folder.log, NO_MED, lambda line: begins(line, MED_LINES), words)
 
 
 def defaults(folder: Folder, _options: Options) -> None:
@@ -69,7 +73,7 @@ def distances(folder: Folder, _options: Options) -> None:
     """Cuts administrative distances where nothing competes."""
     for router in folder.routers:
         for process in router.with_head("router"):
-            if not _competes(router):
+            if "distance" in process.by_word and not _competes(router):
                 cut_lines(process, folder.log, DISTANCE, _is_plain_distance, ("distance",))
 
 

@@ -102,11 +102,7 @@ def _announced(folder: Folder) -> set[IPv4Network]:
 def default_routes(folder: Folder, _options: Options) -> None:
     """Tells of a default route: the profile has none."""
     found = [
-        str(line.place)
-        for router in folder.routers
-        for stanza in router.stanzas
-        for line in stanza.lines
-        if _is_default(stanza, line)
+        str(line.place) for router in folder.routers for stanza in router.stanzas for line in _default_lines(stanza)
     ]
     if found:
         folder.log.remarks.append(
@@ -114,10 +110,22 @@ def default_routes(folder: Folder, _options: Options) -> None:
         )
 
 
+def _default_lines(stanza: Stanza) -> list[Line]:
+    """The lines of a stanza that make a default route."""
+    found = [line for word in DEFAULT_WORDS for line in stanza.by_word.get(word, ()) if _is_default(stanza, line)]
+    inside = [line for line in stanza.body if any(line is it for it in found)] if found else []
+    return [stanza.head, *inside] if _is_default(stanza, stanza.head) else inside
+
+
 def _is_default(stanza: Stanza, line: Line) -> bool:
-    if not line.words or line.words[0] not in DEFAULT_WORDS:
+    words = line.words
+    if len(words) < 2 or words[0] not in DEFAULT_WORDS:
         return False
-    if line.words[0] == "neighbor" and "default-originate" not in line.words:
+    if words[0] == "ip" and words[1] not in ("route", "default-network"):
+        return False
+    if words[0] == "neighbor" and "default-originate" not in words:
+        return False
+    if words[0] == "network" and words[1] != "0.0.0.0":
         return False
     words = [word for word in line.words if word not in ("!", "assumed:")]
     given = line.with_text(" ".join(words))

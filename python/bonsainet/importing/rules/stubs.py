@@ -4,7 +4,7 @@ from __future__ import annotations
 from ipaddress import IPv4Address, IPv4Network
 
 from bonsainet.cli.command_line import Refused
-from bonsainet.importing.folder import Folder, Source, as_number, own_address_of
+from bonsainet.importing.folder import Folder, Source, Up, address_given, as_number, name_of, own_address_of
 from bonsainet.importing.rules.neighbors import Peer, peers_of
 from bonsainet.importing.rules.options import Options
 from bonsainet.configs.text import Line, Place, Stanza
@@ -15,13 +15,26 @@ def add(folder: Folder, options: Options) -> None:
     for address, prefixes in options.stubs:
         _add(folder, address, prefixes)
     up = folder.up
+    shut = _shut(folder, up)
     for router in folder.routers:
         for peer in peers_of(router, up):
             line = peer.line("remote-as")
             if line and not peer.far and line.words[3:4] != ["internal"]:
+                what = f"is {shut[peer.address]}, which is shut" if peer.address in shut else "is not in the folder"
+                how = "" if peer.address in shut else f"; --stub {peer.address}=PREFIX,.. adds it"
                 folder.log.remarks.append(
-                    f"{line.place}: the peer {peer.address} is not in the folder, so this neighbour takes part in nothing; --stub {peer.address}=PREFIX,.. adds it"
+                    f"{line.place}: the peer {peer.address} {what}, so this neighbour takes part in nothing{how}"
                 )
+
+
+def _shut(folder: Folder, up: Up) -> dict[IPv4Address, str]:
+    """The addresses that interfaces of the folder have and none that is up, each with whose it is."""
+    return {
+        given.ip: f"{name_of(stanza)} of {router.name}"
+        for router in folder.routers
+        for stanza in router.interfaces
+        if (given := address_given(stanza)) and given.ip not in up
+    }
 
 
 def _add(folder: Folder, address: IPv4Address, prefixes: tuple[IPv4Network, ...]) -> None:
@@ -74,7 +87,7 @@ def _stub(
             (
                 found
                 for found in (prefix.network_address + step for step in range(min(prefix.num_addresses, 1000)))
-                if found not in taken and (found != prefix.network_address or prefix.prefixlen > 30)
+                if int(found) not in taken and (found != prefix.network_address or prefix.prefixlen > 30)
             ),
             None,
         )

@@ -22,18 +22,24 @@ HEADS = {"map": ("route-map",), "prefix": ("ip", "prefix-list"), "community": ("
 def define(folder: Folder, _options: Options) -> None:
     """Defines what a decision gives a meaning, and refuses other names without a definition."""
     for router in folder.routers:
+        defined: set[tuple[str, str]] = set()
         for kind, name, line in list(_named(router)):
-            if not _is_defined(router, kind, name):
+            if (kind, name) in defined:
+                continue
+            if _is_defined(router, kind, name):
+                defined.add((kind, name))
+            else:
                 _define(folder, router, kind, name, line)
 
 
 def _named(router: Source) -> Iterator[tuple[str, str, Line]]:
     """The names of lists and maps that neighbours and entries have, each with its kind and its line."""
     for stanza in router.stanzas:
-        if stanza.starts("route-map"):
+        words = stanza.head.words
+        if words[:1] == ["route-map"]:
             for line in stanza.body:
                 yield from ((kind, name, line) for kind, name in _named_in_entry(line.words))
-        elif stanza.starts("router", "bgp"):
+        elif words[:2] == ["router", "bgp"]:
             for line in stanza.by_word.get("neighbor", ()):
                 words = line.words
                 if len(words) == 5 and words[2] in OF_NEIGHBOR:

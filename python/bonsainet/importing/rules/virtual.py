@@ -2,6 +2,7 @@
 from __future__ import annotations
 
 import re
+from collections.abc import Callable
 
 from bonsainet.importing.folder import Folder, Source, has
 from bonsainet.importing.rewriting import cut_lines
@@ -16,27 +17,34 @@ VRF = rule(
 )
 IPV6 = rule("ipv6", "IPv6 routes are no IPv4 routes", "RFC 4760, RFC 5340")
 LEAK = "vrf-leak"
+WITH_VRFS = {"exit-vrf", "interface", "ip", "ipv6", "router", "vrf"}
 IN_VRF = (["vrf", "forwarding"], ["ip", "vrf", "forwarding"], ["vrf", "member"])
 
 
 def cut_vrfs(folder: Folder, _options: Options) -> None:
     """Cuts all VRFs other than the global table, with their interfaces, processes and routes."""
     for router in folder.routers:
-        kept = []
-        for stanza in router.stanzas:
-            if _is_of_vrf(stanza):
-                folder.log.cut(stanza.lines, VRF)
-                _refuse_leaks(folder, stanza)
-            else:
-                kept.append(stanza)
-        router.stanzas = kept
+        for stanza in _cut_stanzas(router, _is_of_vrf):
+            folder.log.cut(stanza.lines, VRF)
+            _refuse_leaks(folder, stanza)
         for process in router.with_head("router", "bgp"):
             _refuse_imports(folder, process)
             _cut_families(folder, process)
 
 
+def _cut_stanzas(router: Source, is_cut: Callable[[Stanza], bool]) -> list[Stanza]:
+    """Leaves out the stanzas of which `is_cut` holds, and gives them."""
+    gone = [stanza for stanza in router.stanzas if is_cut(stanza)]
+    if gone:
+        ids = set(map(id, gone))
+        router.stanzas = [stanza for stanza in router.stanzas if id(stanza) not in ids]
+    return gone
+
+
 def _is_of_vrf(stanza: Stanza) -> bool:
     words = stanza.head.words
+    if not words or words[0] not in WITH_VRFS:
+        return False
     if words[:1] == ["interface"]:
         return "vrf" in words[2:] or any(has(stanza, *head) for head in IN_VRF)
     if words[:1] == ["router"]:
@@ -83,13 +91,8 @@ def _cut_families(folder: Folder, process: Stanza) -> None:
 def cut_ipv6(folder: Folder, _options: Options) -> None:
     """Cuts lines and processes of IPv6."""
     for router in folder.routers:
-        kept = []
-        for stanza in router.stanzas:
-            if _is_ipv6(stanza) and not folder.takes("top", stanza.head.text):
-                folder.log.cut(stanza.lines, IPV6)
-            else:
-                kept.append(stanza)
-        router.stanzas = kept
+        for stanza in _cut_stanzas(router, lambda it: _is_ipv6(it) and not folder.takes("top", it.head.text)):
+            folder.log.cut(stanza.lines, IPV6)
         for stanza in router.interfaces:
             cut_lines(stanza, folder.log, IPV6, _is_ipv6_line, ("ipv6", "no", "ospfv3"))
         _cut_entries(folder, router)
@@ -98,6 +101,8 @@ def cut_ipv6(folder: Folder, _options: Options) -> None:
 def _is_ipv6(stanza: Stanza) -> bool:
     """Whether a stanza speaks of IPv6 alone. OSPFv3 carries IPv4 routes too where it has the family (RFC 5838)."""
     words = stanza.head.words
+    if not words or words[0] not in ("ipv6", "no", "router"):
+        return False
     if words[:2] == ["router", "ospfv3"]:
         return not has(stanza, "address-family", "ipv4")
     return words[:1] == ["ipv6"] or words[:2] in (["no", "ipv6"], ["router", "ospf6"], ["router", "ripng"])

@@ -24,14 +24,13 @@ def rename(folder: Folder, _options: Options) -> None:
     """Writes a made-up community for each of the three, in what sets communities and in lists of them."""
     made = made_up(folder)
     for router in folder.routers:
-        for stanza in router.stanzas:
-            if stanza.starts("ip", "community-list") and "expanded" not in stanza.head.words:
-                text = _renamed(stanza.head, made)
-                if text:
-                    folder.log.by(stanza.head, HELD)
-                    stanza.head = stanza.head.with_text(text)
-            elif stanza.starts("route-map"):
-                rewrite(stanza, folder.log, lambda line: _set(folder, line, made), ("set",))
+        for stanza in list(router.with_head("ip", "community-list")):
+            text = _renamed(stanza.head, made) if "expanded" not in stanza.head.words else None
+            if text:
+                folder.log.by(stanza.head, HELD)
+                stanza.head = stanza.head.with_text(text)
+        for stanza in router.with_head("route-map"):
+            rewrite(stanza, folder.log, lambda line: _set(folder, line, made), ("set",))
 
 
 def made_up(folder: Folder) -> dict[str, str]:
@@ -39,8 +38,9 @@ def made_up(folder: Folder) -> dict[str, str]:
     used = {
         word.partition(":")[0]
         for router in folder.routers
-        for line in router.lines
-        if line.words[:2] == ["set", "community"] or line.words[:2] == ["ip", "community-list"]
+        for stanza in router.stanzas
+        for line in (stanza.head, *stanza.by_word.get("set", ()), *stanza.by_word.get("ip", ()))
+        if line.words[:2] in (["set", "community"], ["ip", "community-list"])
         for word in map(spelled, line.words[2:])
         if word
     }

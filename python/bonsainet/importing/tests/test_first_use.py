@@ -7,6 +7,7 @@ from pathlib import Path
 import pytest
 
 from bonsainet.ask.program import Program
+from bonsainet.cli import progress as of_progress
 from bonsainet.cli.command_line import Refused
 from bonsainet.configs.network import read_network
 from bonsainet.configs.text import text_of
@@ -155,3 +156,42 @@ def test_the_mtu_of_a_system_is_compared(
     found = report(tmp_path, program, (A_OSPF + near, B_OSPF + far))
     doubts = [one.told.partition(":")[0] for one in doubts_of_agreement(read_network(text(found)))]
     assert doubts == (["the MTU is 9000 here and 1500 on GigabitEthernet0/0 of b"] if is_doubted else [])
+
+
+def test_what_is_assumed_stands_in_the_order_of_the_lines(tmp_path: Path, program: Program) -> None:
+    texts = A_OSPF + " redistribute static\n", B_OSPF.replace("Vlan1", "Tunnel1") + " redistribute static\n"
+    decisions = 'drop "redistribute static" because "x"\ncost "Tunnel1" 5 because "y"\n'
+    found = report(tmp_path, program, texts, decisions)
+    assert not refused(found), found.text
+    told = [(it.place.file, it.place.line) for it in found.shown_assumptions]
+    assert told == sorted(told) and [file for file, _ in told] == ["r0.cfg", "r1.cfg", "r1.cfg"]
+
+
+def test_each_part_of_an_import_can_show_how_much_is_done(tmp_path: Path, monkeypatch: pytest.MonkeyPatch) -> None:
+    bars: list[str] = []
+
+    class Bar(of_progress._Bar):
+        """A bar that tells of what it is."""
+
+        is_wanted = True
+
+        def __init__(self, what: str, total: int | None) -> None:
+            super().__init__(what, total)
+            bars.append(what)
+
+    monkeypatch.setattr(of_progress, "_Bar", Bar)
+    monkeypatch.setattr(of_progress, "is_terminal", lambda: True)
+    (tmp_path / "a.cfg").write_text(A_BGP)
+    assert main([str(tmp_path), "--report", str(tmp_path / "report.json"), "--json"]) == 0
+    assert bars == ["files read", "rules worked through", "text judged", "lines compared", "report made"]
+
+
+def test_a_peer_that_is_shut_is_no_peer_outside(tmp_path: Path, program: Program) -> None:
+    """Nobody is told to add a second router at an address that a router of the folder has."""
+    shut = B_BGP.replace("interface Vlan1\n", " shutdown\ninterface Vlan1\n")
+    remarks = report(tmp_path, program, (A_BGP, shut)).folder.log.remarks
+    assert (
+        "r0.cfg:8: the peer 172.16.0.2 is GigabitEthernet0/0 of b, which is shut, so this neighbour takes part in nothing"
+        in remarks
+    )
+    assert not any("--stub" in one for one in remarks if "172.16.0.2" in one)

@@ -102,6 +102,15 @@ def test_a_prefix_list_with_a_prefix_that_is_none_answers_nothing(tmp_path: Path
     assert prefix_list(folder.routers[0], "P") is None
 
 
+def test_a_copy_is_told_with_the_files_without_a_router(tmp_path: Path) -> None:
+    with pytest.raises(Refused, match="2 files cannot be read") as refused:
+        folder_of(tmp_path, a_cfg=PLAIN, b_cfg=PLAIN, cabling_txt="a to b\n")
+    assert refused.value.details == [
+        "  cabling.txt: no router in this file",
+        "  b.cfg: a.cfg:1 has the host name a too: b.cfg is a copy of a.cfg; leave it out by --skip 'b.cfg'",
+    ]
+
+
 def test_files_without_a_router_are_told_at_once_or_left_out(tmp_path: Path) -> None:
     files: dict[str, bytes | str] = {
         "a_cfg": PLAIN,
@@ -109,7 +118,9 @@ def test_files_without_a_router_are_told_at_once_or_left_out(tmp_path: Path) -> 
         "site__hosts_txt": "hosts\n",
         "blob": b"\0",
     }
-    with pytest.raises(Refused, match="3 files cannot be read as routers; .* left out by --skip") as refused:
+    with pytest.raises(
+        Refused, match="3 files cannot be read as routers of their own; .* left out by --skip"
+    ) as refused:
         folder_of(tmp_path, **files)
     assert refused.value.details == [
         "  blob: not a text, it has bytes of value 0",

@@ -47,6 +47,13 @@ def test_the_campus_is_imported_by_what_is_suggested(program: Program) -> None:
             'drop at r0.cfg "neighbor 172.16.0.2 local-as 65099" because',
         ),
         ((A_OSPF.replace("Vlan1", "Tunnel1"), B_OSPF), 'bandwidth at r0.cfg "Tunnel1" KBITS because'),
+        (
+            (
+                A_BGP + " neighbor 172.16.0.2 route-map M out\nroute-map M permit 10\n set metric 5\n set origin egp\n",
+                B_BGP,
+            ),
+            'drop at r0.cfg "set origin egp" because',
+        ),
     ],
 )
 def test_a_decision_for_each(texts: tuple[str, str], decision: str, tmp_path: Path, program: Program) -> None:
@@ -54,6 +61,23 @@ def test_a_decision_for_each(texts: tuple[str, str], decision: str, tmp_path: Pa
     made = completed(skeleton(found.folder, found.refused))
     assert made.startswith(decision)
     assert not refused(report(tmp_path, program, texts, made.replace("KBITS", "100")))
+
+
+def test_a_map_of_which_no_entry_is_left(tmp_path: Path, program: Program) -> None:
+    """Its name takes a decision in the same round, and one alone, behind the entry that goes last."""
+    entries = "route-map M permit 10\n match tag 5\n match metric 5\nroute-map M deny 20\n match tag 6\n"
+    texts = (A_BGP + f" neighbor 172.16.0.2 route-map M out\n{entries}", B_BGP)
+    found = report(tmp_path, program, texts)
+    told = skeleton(found.folder, found.refused)
+    assert told.count("undefined at") == 1
+    assert told.endswith('# undefined at r0.cfg "M" deny|permit because ""\n')
+    assert not refused(report(tmp_path, program, texts, completed(told)))
+
+
+def test_a_map_of_which_an_entry_is_left(tmp_path: Path, program: Program) -> None:
+    entries = "route-map M permit 10\n match tag 5\nroute-map M permit 20\n"
+    found = report(tmp_path, program, (A_BGP + f" neighbor 172.16.0.2 route-map M out\n{entries}", B_BGP))
+    assert "undefined" not in skeleton(found.folder, found.refused)
 
 
 def test_the_command(tmp_path: Path) -> None:

@@ -1,5 +1,6 @@
 """From folder to answer in two rounds: what the first import refuses, its skeleton of decisions names, and with these the second
-is accepted. Four folders are examples, three have the traps of an edge of a provider, a fabric of shared numbers and a campus of three areas."""
+is accepted. Four folders are examples, three have the traps of an edge of a provider, a fabric of shared numbers and a campus of three areas.
+Three are of a hostile walk: a data centre with `continue`, offices with links that devices would not form, and eight networks of an internet."""
 from __future__ import annotations
 
 from pathlib import Path
@@ -40,6 +41,9 @@ def second_round(folder: Path, program: Program) -> tuple[Report, int]:
         (OWN / "edge", 1),
         (OWN / "fabric", 2),
         (OWN / "areas", 2),
+        (OWN / "clos", 2),
+        (OWN / "offices", 2),
+        (OWN / "transit", 2),
     ],
     ids=lambda one: one.name if isinstance(one, Path) else None,
 )
@@ -63,6 +67,24 @@ def test_two_rounds(folder: Path, rounds: int, program: Program) -> None:
         ("fabric", "10.1.0.0/24", "leaf1 bgp 100 path comms"),
         ("fabric", "10.1.0.0/24", "border1 bgp 200 path 4200000000 65101 comms 65000:1 65000:100"),
         ("fabric", "10.255.1.1/32", "border1 none"),
+        # (worked out by hand: spine1 and spine2 prefer what carries GOLD, and border1 what spine2 sends)
+        (
+            "clos",
+            "10.3.10.0/24",
+            "leaf3 bgp 100 path 4200000000 65101 comms 65000:101\nborder1 bgp 101 path 4200000001 65101 comms 65000:101",
+        ),
+        # (no-export from its start: it stays where it is)
+        ("clos", "10.3.30.0/24", "leaf3 bgp 100 path comms\nspine1 none\nborder1 none"),
+        # (a secondary subnet, over the link of edge2 whose bandwidth is given at its other end alone)
+        ("offices", "10.0.21.0/24", "core1 cost 20\nedge1 cost 30\nedge2 cost 20"),
+        ("offices", "10.0.40.0/24", "abr1 cost 50\ncore2 cost 50\nedge1 cost 20"),
+        # (as4 prefers the longer path by its community, and as5 what as7 sends: the peer group's maps give the others less)
+        (
+            "transit",
+            "198.51.1.0/24",
+            "as4 bgp 200 path 64503 64501*3 comms 64501:30\nas5 bgp 100 path 64507 64506 64504 64503 64501*3 comms 64501:30",
+        ),
+        ("transit", "198.51.8.0/24", "as5 bgp 100 path 64507 64508 comms\nas4 bgp 100 path 64506 64508 comms"),
     ],
 )
 def test_labels(folder: str, prefix: str, labels: str, program: Program) -> None:

@@ -10,6 +10,7 @@ from bonsainet.lab.namespaces import hardware_address, link_commands, port_comma
 from bonsainet.lab.plan import Plan, daemon_files, plan_of
 from bonsainet.lab.rest import NoRest, adjacencies_missing
 from bonsainet.lab.ties import ranks_of
+from bonsainet.lab.tools import STATUS_NOT_STABLE
 from bonsainet.ask.labels import BgpLabel, OspfLabel, read_solution, solution_text
 from bonsainet.configs.network import Network, read_network
 from bonsainet.ask.program import TOP
@@ -162,3 +163,9 @@ def test_the_other_end_of_a_pair_is_named() -> None:
         f"neigh replace {far} lladdr {hardware_address(0, 1)} dev {port} nud permanent\n" in port_commands(made)[space]
     )
     assert hardware_address(70000, 1) == "02:00:01:11:70:01"
+
+
+def test_the_manual_has_the_status_of_what_is_not_stable() -> None:
+    told = f".B {STATUS_NOT_STABLE}\nThe routers came to rest in labels that are not stable"
+    assert told in (TOP / "docs" / "man" / "bonsai-lab.1").read_text()
+    assert f"`bonsai-lab` also {STATUS_NOT_STABLE}, " in (TOP / "docs" / "use" / "COMMANDS.md").read_text()

@@ -11,7 +11,7 @@ from bonsainet.configs.text import lines_of, router_texts
 from bonsainet.library import Network
 from bonsainet.library.calls import call
 from bonsainet.library.pairs import Pair
-from bonsainet.library.states import always_true
+from bonsainet.library.states import always_true, may_tie
 
 INPUTS = TOP / "examples" / "inputs"
 CAMPUS = (INPUTS / "campus.cfg").read_text()
@@ -76,6 +76,16 @@ def test_what_lacks_a_community_is_tied_as_what_is_true_of_hops(name: str) -> No
     assert said[0] == said[1]
     (report,) = reports_of(said[0])
     assert all(isinstance(part, ClassAnswer) and part.verdict != "no" for part in report.parts)
+
+
+@pytest.mark.parametrize(
+    "name", ["fat-tree-4", "full-mesh", "asking/avoids-no", "asking/by-address", "asking/through-no"]
+)
+def test_without_route_maps_nothing_ties(name: str) -> None:
+    network = Network.from_file(INPUTS / f"{name}.cfg")
+    assert network.is_bgp and not may_tie(network)
+    (report,) = reports_of(call(ASK, ["F", "*", *ALWAYS_TRUE], network.text, network.name, done=IS_DONE).text)
+    assert [part.tie for part in report.parts if isinstance(part, ClassAnswer)] == [None] * len(network.classes)
 
 
 def test_a_community_that_no_line_has() -> None:

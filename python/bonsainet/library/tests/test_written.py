@@ -6,7 +6,7 @@ import io
 import pytest
 
 from bonsainet.library import written
-from bonsainet.library.written import MOST_SOLUTIONS, Written, read
+from bonsainet.library.written import MOST_PASSED, MOST_SOLUTIONS, Written, read
 
 
 def out(*solutions: tuple[int, int, str]) -> bytes:
@@ -18,14 +18,16 @@ def out(*solutions: tuple[int, int, str]) -> bytes:
 def test_it_is_cut_at_its_heads(block: int, monkeypatch: pytest.MonkeyPatch) -> None:
     monkeypatch.setattr(written, "BLOCK", block)
     text = out((3, 1, "class cost 1\na none\n"), (3, 2, "class cost 2\na none\n"), (11, 1, "class none\na cost 7\n"))
-    assert list(read(io.BytesIO(text))) == [
-        (3, Written(((b"class cost 1", b"a none"), (b"class cost 2", b"a none")))),
-        (11, Written((b"class none\na cost 7",))),
-    ]
+    found, is_whole = read(io.BytesIO(text))
+    assert found == {
+        3: Written(((b"class cost 1", b"a none"), (b"class cost 2", b"a none"))),
+        11: Written((b"class none\na cost 7",)),
+    }
+    assert is_whole
 
 
 def test_nothing_is_written() -> None:
-    assert not list(read(io.BytesIO(b"")))
+    assert read(io.BytesIO(b"")) == ({}, True)
 
 
 @pytest.mark.parametrize(
@@ -41,14 +43,17 @@ def test_nothing_is_written() -> None:
 )
 def test_what_is_of_no_known_form(text: bytes) -> None:
     with pytest.raises(ValueError):
-        list(read(io.BytesIO(text)))
+        read(io.BytesIO(text))
 
 
-def test_of_many_solutions_the_first_are_kept() -> None:
-    many = [(1, place, f"a cost {place}\n") for place in range(1, 3 * MOST_SOLUTIONS)]
-    stream = io.BytesIO(out((1, 1, "a none\n"), *((2, place, lines) for _, place, lines in many), (3, 1, "a none\n")))
-    (first, one), (second, several) = read(stream)
-    assert (first, one.only, one.is_whole) == (1, b"a none", True)
-    assert (second, several.only, several.is_whole, len(several.solutions)) == (2, None, False, MOST_SOLUTIONS)
-    assert several.solutions[-1] == (f"a cost {MOST_SOLUTIONS}".encode(),)
-    assert several.lines() == [(f"a cost {place}".encode(),) for place in range(1, MOST_SOLUTIONS + 1)]
+@pytest.mark.parametrize("count", [MOST_SOLUTIONS, MOST_SOLUTIONS + 1, MOST_PASSED, MOST_PASSED + 1, 2 * MOST_PASSED])
+def test_of_many_solutions_the_first_are_kept(count: int) -> None:
+    """Further ones are passed over, unless they are too many."""
+    many = [(2, place, f"a cost {place}\n") for place in range(1, count + 1)]
+    found, is_whole = read(io.BytesIO(out((1, 1, "a none\n"), *many, (3, 1, "a cost 3\n"))))
+    assert is_whole == (count <= MOST_PASSED)
+    assert list(found) == ([1, 2, 3] if is_whole else [1, 2])
+    assert found[1] == Written((b"a none",)) and found.get(3, Written((b"a cost 3",))) == Written((b"a cost 3",))
+    kept = [(f"a cost {place}".encode(),) for place in range(1, MOST_SOLUTIONS + 1)]
+    assert found[2].lines() == kept and found[2].only is None
+    assert found[2].is_whole == (count == MOST_SOLUTIONS)

@@ -21,12 +21,27 @@ function sortBy(heading) {
   for (const each of table.tHead.rows[0].cells) each.setAttribute("aria-sort", each === heading ? direction : "none");
 }
 
+// An address or the base of a prefix as a number.
+function numberOf(address) {
+  return address.split(".").reduce((number, part) => 256 * number + Number(part), 0);
+}
+
+// Whether a text has a word, or a prefix around the address that the word is.
+function tells(text, word) {
+  if (text.includes(word)) return true;
+  if (!/^\d+(\.\d+){3}$/.test(word)) return false;
+  return Array.from(text.matchAll(/(\d+(?:\.\d+){3})\/(\d+)/g)).some(([, base, length]) => {
+    const size = 2 ** (32 - Number(length));
+    return Math.floor(numberOf(word) / size) === Math.floor(numberOf(base) / size);
+  });
+}
+
 function filter() {
   const wanted = search.value.trim().toLowerCase().split(/\s+/);
   let shown = 0;
   for (const row of body.rows) {
     const text = row.textContent.toLowerCase();
-    row.hidden = !wanted.every((word) => text.includes(word));
+    row.hidden = !wanted.every((word) => tells(text, word));
     shown += !row.hidden;
   }
   document.getElementById("shown").textContent = `${shown} of ${body.rows.length} ${body.rows.length === 1 ? "row" : "rows"}`;

@@ -257,6 +257,10 @@ def test_sorting_searching_and_opening(browser: Any, tmp_path: Path) -> None:
     assert shown(browser, first)[-3:] == ["14", "15", "16"]
     browser.find_element("id", "search").send_keys("10.20.0.0/24")
     assert shown(browser, first) == ["10"] and shown(browser, "#shown") == ["1 of 16 rows"]
+    for address, found in (("10.20.1.1 access2", ["12"]), ("10.20.1.1 access1", []), ("10.20.0.255", ["10"])):
+        browser.find_element("id", "search").clear()
+        browser.find_element("id", "search").send_keys(address)
+        assert shown(browser, first) == found
     browser.find_element("css selector", "#classes tbody tr:not([hidden])").click()
     assert shown(browser, "#open h2") == ["Class 10"]
     assert shown(browser, "#open .groups td:last-child") == ["core1 core2", "dist1", "dist2", "access1", "access2"]

@@ -10,6 +10,7 @@ import pytest
 
 from bonsainet.ask.program import TOP
 from bonsainet.ask.where import without_notices
+from bonsainet.bench.shapes import SHAPES, bgp
 
 FABRIC = str(TOP / "examples" / "inputs" / "fabric.cfg")
 USAGE = (
@@ -44,6 +45,20 @@ def test_what_is_down_and_what_fails() -> None:
         b"class 1 yes\nclass 1 failing 0 of 8\n",
         b"",
     )
+
+
+def test_ties_where_links_fail() -> None:
+    two = bgp((["x", "a", "b", "o"], [("x", "a"), ("x", "b"), ("a", "o"), ("b", "o")]), 1, True)
+    assert failing_links(two, "x") == (0, b"class 1 yes tied x communities\nclass 1 failing 0 of 4\n", b"")
+    status, out, err = failing_links(SHAPES["bgp-leaf-spine"].text(16), "*")
+    assert (status, err) == (0, b"") and out.endswith(b"class 1 failing 0 of 28 tied 28\n")
+    status, out, err = failing_links(SHAPES["bgp-leaf-spine"].text(160), "*")
+    assert (status, err) == (8, b"") and out.endswith(b"class 1 failing 1200 of 1200\n")
+
+
+def failing_links(text: str, routers: str) -> End:
+    """The answers of the first class: have the routers a route, also without each link?"""
+    return asked("-", "1", "failing", "links", "route", routers, data=text.encode())
 
 
 def test_a_file_of_questions_on_standard_input(tmp_path: Path) -> None:

@@ -4,6 +4,7 @@ from __future__ import annotations
 import pytest
 
 from bonsainet.ask.program import TOP
+from bonsainet.repo.marks import with_measured
 from bonsainet.repo.sentences import WIDTH, every, faults, formed, sentences
 
 
@@ -39,3 +40,11 @@ def test_a_page_keeps_its_words_tables_and_code() -> None:
 def test_each_fault_is_named() -> None:
     assert faults("P", "One. Two.\n") == ["P:1: more than one sentence in a line"]
     assert faults("P", "x" * 161 + "\n") == ["P:1: 161 columns, and 160 is the most"]
+
+
+def test_what_a_measurement_writes_is_within_the_columns() -> None:
+    page = "Before.\n<!-- measured: speed; bench/x writes this table -->\nold\n<!-- measured: end -->\nAfter.\n"
+    long = "; ".join(["a figure of a row"] * 20)
+    made = with_measured(page, "speed", f"| a | b |\n|---|---|\n| {long} | 1 |\n\nMade with: {long}.\n")
+    assert faults("P", made) == [] and f"| {long} | 1 |\n" in made and "old" not in made
+    assert with_measured(page, "memory", "new\n") == page

@@ -66,6 +66,16 @@ def test_a_lone_router() -> None:
     assert "      F:41: set local-preference 200" in found
 
 
+def test_a_default_preference() -> None:
+    plain = (INPUTS / "asking/disagree.cfg").read_text().replace(" route-map P in", " send-community")
+    text = plain.replace("router bgp 65003\n", "router bgp 65003\n bgp default local-preference 500\n")
+    reading = Reading.of_class(bonsainet.Network.from_text(text, "F").class_of(1))
+    found = list(lines(reading, "x", "y", why(reading, "x", "y")))
+    assert [line.split(":", 2)[2] for line in found if "local-preference 500" in line] == [
+        " bgp default local-preference 500"
+    ]
+
+
 def test_one_group() -> None:
     assert said("campus.cfg", "10.0.0.0/30", "access1", "access2") == [
         "access1 and access2 are in one group for 10.0.0.0/30: access1 access2"
