@@ -20,11 +20,11 @@ from bonsainet.importing.read import read_folder
 from bonsainet.importing.report import report_of
 from bonsainet.importing.rules.options import Options
 from bonsainet.importing.tool import work
+from bonsainet.repo.marks import with_measured
 from hostile.asking import Asker
 
 KEPT = TOP / "hostile" / "measured" / "corpus.json"
 PAGE = TOP / "docs" / "inside" / "CORPUS-ASKED.md"
-MARKS = re.compile(r"(<!-- measured: corpus[^\n]*-->\n).*?(<!-- measured: end -->\n)", re.S)
 SECONDS = 120.0
 
 
@@ -122,5 +122,5 @@ def main(arguments: list[str] | None = None) -> int:
         rows = [dataclasses.asdict(one) for one in found]
         KEPT.write_text(json.dumps({"date": time.strftime("%Y-%m-%d"), "networks": rows}, indent=1) + "\n", "utf-8")
         page = PAGE.read_text("utf-8")
-        PAGE.write_text(MARKS.sub(lambda mark: mark[1] + table(found) + mark[2], page), "utf-8")
+        PAGE.write_text(with_measured(page, "corpus", table(found)), "utf-8")
     return 0

@@ -3,11 +3,11 @@
 from __future__ import annotations
 
 import math
-import re
 from pathlib import Path
 
 from bonsainet.ask.program import TOP
 from bonsainet.cli.command_line import Refused
+from bonsainet.repo.marks import with_measured
 from hostile.figure.measuring import Row
 
 PAGE = TOP / "docs" / "inside" / "MEASURED.md"
@@ -71,9 +71,7 @@ def write(rows: list[Row], told: str) -> None:
 
 def put(page: Path, made: str) -> None:
     """Writes between the marks of a page."""
-    pattern = r"(<!-- measured: asked[^\n]*-->\n).*?(<!-- measured: end -->\n)"
-    text = page.read_text("utf-8")
-    page.write_text(re.sub(pattern, lambda mark: mark[1] + made + mark[2], text, flags=re.S), "utf-8")
+    page.write_text(with_measured(page.read_text("utf-8"), "asked", made), "utf-8")
 
 
 def draw(rows: list[Row], place: Path) -> None:

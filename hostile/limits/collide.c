@@ -1,13 +1,13 @@
 /* Keys that the hash tables of the program put close to each other: the hasher has a fixed seed, folds a product of 128 bits, and a table
    takes the low bits of the folded hash for the place and the high byte for the tag. `collide names|addresses COUNT PLACES WITHIN` writes
-   COUNT names of interfaces, or addresses, of one tag, whose place among PLACES (a power of two) is below WITHIN. */
+   COUNT names, or addresses, of one tag, whose place among PLACES (a power of two) is below WITHIN. */
 #include <stdint.h>
 #include <stdio.h>
 #include <stdlib.h>
 #include <string.h>
 
 static const uint64_t MULTIPLIER = 0x9e3779b97f4a7c15, SEED = 0x243f6a8885a308d3;
-static const char SIGNS[] = "abcdefghijklmnopqrstuvwxyzABCDEFGHIJKLMNOPQRSTUVWXYZ0123456789/.";
+static const char SIGNS[] = "abcdefghijklmnopqrstuvwxyzABCDEFGHIJKLMNOPQRSTUVWXYZ0123456789-.";
 
 static uint64_t fold(uint64_t a, uint64_t b) {
     unsigned __int128 product = (unsigned __int128)a * b;

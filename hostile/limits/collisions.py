@@ -1,7 +1,8 @@
 """Texts made against the hash tables of the program: the kit's hasher has a fixed seed, so names and addresses can be
-picked that meet."""
+picked that meet where it takes no key."""
 from __future__ import annotations
 
+import dataclasses
 import functools
 import subprocess
 import tempfile
@@ -21,7 +22,7 @@ def _tool() -> tuple[tempfile.TemporaryDirectory[str], Path]:
 
 
 def keys(kind: str, count: int) -> list[str]:
-    """This many names of interfaces, or addresses, of one tag and of the first 200th of the places. CalledProcessError
+    """This many names, or addresses, of one tag and of the first 200th of the places. CalledProcessError
     without gcc."""
     places = 1
     while LOAD * places < count:
@@ -30,14 +31,51 @@ def keys(kind: str, count: int) -> list[str]:
     return subprocess.run(words, capture_output=True, text=True, check=True).stdout.split()
 
 
-def with_names(count: int) -> bytes:
-    """A router of this many interfaces, whose names meet in the table of names."""
-    return b"hostname a\n" + b"".join(b"interface %s\n" % name.encode() for name in keys("names", count)) + b"end\n"
+@dataclasses.dataclass(frozen=True)
+class Named:
+    """What a text names many of: the lines before the names, a line for a name `{}`, and the lines behind them. At most
+    `most` of them stand in one router, and a text has at most `bound` of them."""
+
+    name: str
+    before: str
+    line: str
+    behind: str
+    most: int | None = None
+    bound: int = 1_000_000
+
+    def text(self, names: list[str]) -> bytes:
+        """A text with these names, in as many routers as it takes. Where there are several, each has the same names."""
+        most = self.most or len(names)
+        lines = []
+        for number in range(-(-len(names) // most)):
+            some = names[:most] if self.most else names
+            lines += [self.before.format(number), *(self.line.format(name) for name in some), self.behind]
+        return "".join(f"{line}\n" for line in lines if line).encode()
 
 
-def plain_names(count: int) -> bytes:
-    """As many interfaces whose names do not meet."""
-    return b"hostname a\n" + b"".join(b"interface a%06d0\n" % number for number in range(count)) + b"end\n"
+DELETION = "ip community-list standard {0} permit 1:1\nroute-map {0} permit 10\n set comm-list {0} delete"
+NAMED = (
+    Named("interfaces", "hostname r{}", "interface {}", "end"),
+    Named("interfaces, 12 in each router", "hostname r{}", "interface {}", "end", 12, 49_152),
+    Named("routers", "", "hostname {}\nend", "", None, 4096),
+    Named("prefix lists", "hostname r{}", "ip prefix-list {} seq 5 permit 10.0.0.0/8", "end"),
+    Named("community lists", "hostname r{}", "ip community-list standard {} permit 1:1", "end"),
+    Named("route maps", "hostname r{}", "route-map {} permit 10", "end"),
+    Named("passive interfaces", "hostname r{}\nrouter ospf 1", " passive-interface {}", "end"),
+    Named("lists to delete by", "hostname r{}", DELETION, "end"),
+)
+"""What a text can name many of."""
+
+
+def with_names(named: Named, count: int) -> bytes:
+    """A text with so many names that meet in a table of names."""
+    names = keys("names", named.most or count)
+    return named.text(names * (count // len(names)))
+
+
+def plain_names(named: Named, count: int) -> bytes:
+    """As many names that do not meet."""
+    return named.text([f"a{number:06d}0" for number in range(count)])
 
 
 def with_addresses(count: int) -> bytes:

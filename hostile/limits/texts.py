@@ -142,9 +142,12 @@ def worst(scale: int) -> Iterator[Case]:
     """Texts made to take long: against the tables by hashes, each beside a plain text of the same size, and against the
     diagrams. `scale` multiplies their sizes."""
     one = ("classes", "F")
-    for count in (1000 * scale, 2000 * scale, 4000 * scale):
-        yield Case(f"{count:,} names", one, functools.partial(collisions.plain_names, count), 0, "", 0)
-        yield Case(f"{count:,} names that meet", one, functools.partial(collisions.with_names, count), 0, "", 0)
+    for named in collisions.NAMED:
+        count = min(4000 * scale, named.bound)
+        yield Case(f"{count:,} {named.name}", one, functools.partial(collisions.plain_names, named, count), 0, "", 0)
+        yield Case(
+            f"{count:,} {named.name} that meet", one, functools.partial(collisions.with_names, named, count), 0, "", 0
+        )
     for count in (2000 * scale, 4000 * scale):
         yield Case(f"{count:,} addresses", one, functools.partial(collisions.plain_addresses, count), 0, "", 0)
         yield Case(f"{count:,} addresses that meet", one, functools.partial(collisions.with_addresses, count), 0, "", 0)

@@ -173,7 +173,7 @@ ASK = [
         "        Reply::Refusal(reason) => Finding::Refusal(reason),\n        _ => Finding::NoMemory,",
         "        Reply::Refusal(reason) => if PLANTED {\n            Finding::NoMemory\n        } else {\n"
         "            Finding::Refusal(reason)\n        },\n        _ => Finding::NoMemory,",
-        "a text that is refused is told as out of memory",
+        "a text that is refused is reported as out of memory",
     ),
 ]
 ALL = [

@@ -61,7 +61,7 @@ FAULTS = [
         "bonsai",
         '    tell("%s: this answer is from an unproved build%s; ./build makes the proved program" % (program.name, more))\n',
         "",
-        "nobody is told that a build is not proved",
+        "no line says that a build is not proved",
         LAUNCHER,
     ),
     _fault(
@@ -207,7 +207,7 @@ FAULTS = [
         "ask/where.py",
         '.startswith("proved, ")',
         '.endswith("")',
-        "any program is told as proved",
+        "any program is reported as proved",
         "ask/tests/test_where.py",
     ),
     _fault(

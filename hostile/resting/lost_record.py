@@ -3,15 +3,14 @@
 from __future__ import annotations
 
 import json
-import re
 from collections.abc import Sequence
 from pathlib import Path
 
 from bonsainet.ask.program import TOP
+from bonsainet.repo.marks import with_measured
 
 KEPT = TOP / "hostile" / "measured" / "losses.json"
 PAGE = TOP / "docs" / "use" / "ROUND-TRIP.md"
-MARKS = re.compile(r"(<!-- measured: losses[^\n]*-->\n).*?(<!-- measured: end -->\n)", re.S)
 
 
 def table(kept: dict[str, dict]) -> str:
@@ -35,4 +34,4 @@ def keep(found: dict, order: Sequence[str], page: Path = PAGE, place: Path = KEP
     kept[found["name"]] = found
     kept = {name: kept[name] for name in order if name in kept}
     place.write_text(json.dumps(kept, indent=1) + "\n", "utf-8")
-    page.write_text(MARKS.sub(lambda mark: mark[1] + table(kept) + mark[2], page.read_text("utf-8")), "utf-8")
+    page.write_text(with_measured(page.read_text("utf-8"), "losses", table(kept)), "utf-8")

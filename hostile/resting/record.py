@@ -3,14 +3,13 @@
 from __future__ import annotations
 
 import json
-import re
 from pathlib import Path
 
 from bonsainet.ask.program import TOP
+from bonsainet.repo.marks import with_measured
 
 KEPT = TOP / "hostile" / "measured" / "events.json"
 PAGE = TOP / "docs" / "use" / "MORE-THAN-ONE-ANSWER.md"
-MARKS = re.compile(r"(<!-- measured: events[^\n]*-->\n).*?(<!-- measured: end -->\n)", re.S)
 
 
 def table(kept: dict[str, dict]) -> str:
@@ -32,4 +31,4 @@ def table(kept: dict[str, dict]) -> str:
 def write(page: Path = PAGE, kept: Path = KEPT) -> None:
     """Writes the table between its marks of the page."""
     made = table(json.loads(kept.read_text("utf-8")))
-    page.write_text(MARKS.sub(lambda mark: mark[1] + made + mark[2], page.read_text("utf-8")), "utf-8")
+    page.write_text(with_measured(page.read_text("utf-8"), "events", made), "utf-8")
