@@ -47,9 +47,9 @@ ASK = [
     ),
     _of(
         "parallel-number",
-        "ask_classes/src/link_trials.rt",
-        "    links[..place + 1]\n        .iter()",
-        "    let from = if PLANTED { place } else { 0 };\n    links[from..place + 1]\n        .iter()",
+        "ask_classes/src/link_run.rt",
+        "count_between(&links[self.first..place + 1], link)",
+        "let from = if PLANTED { place } else { self.first };\n        count_between(&links[from..place + 1], link)",
         "each of several links between two routers is the first one",
     ),
     _of(
