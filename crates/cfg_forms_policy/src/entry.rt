@@ -83,7 +83,7 @@ pub(crate) fn match_comms(
 #[tactic(auto, unfolding(cfg_ast::specs::text::PolicyForms::policy_form))]
 pub(crate) fn lp(bytes: &[u8], words: &[Span]) -> Result<PolicyItem, FormFault>
     requires { AllByRecursion (IsWordIn bytes.now) words.now }
-    ensures { (line : ℕ) → Reads result (policy_form form.Lp line (texts bytes.now words.now)) }
+    ensures { (line : ℕ) → result ≡ policy_form form.Lp line (texts bytes.now words.now) }
 {
     let [_, _, number] = words else {
         return Err(BadForm);

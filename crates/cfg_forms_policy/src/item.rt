@@ -14,6 +14,7 @@ use cfg_ast::{FormFault, HeadClass, Line, PolicyForm, PolicyItem, PolicyScope, S
 use cfg_words::policy_class;
 use std::alloc::Global;
 
+#[tactic(auto, using(crate::proofs::Exact::exact_reads))]
 fn read_form(
     alloc: Global,
     bytes: &[u8],

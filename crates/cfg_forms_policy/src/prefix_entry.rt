@@ -39,7 +39,7 @@ fn read_prefix(word: &[u8]) -> Option<Prefix>
 #[tactic(auto, unfolding(cfg_ast::specs::text::PolicyForms::bounds_of))]
 fn bounds(bytes: &[u8], words: &[Span], len: u8) -> Result<(Option<u8>, Option<u8>), FormFault>
     requires { AllByRecursion (IsWordIn bytes.now) words.now }
-    ensures { Reads result (bounds_of len (texts bytes.now words.now)) }
+    ensures { result ≡ bounds_of len (texts bytes.now words.now) }
 {
     if let [] = words {
         return Ok((None, None));
