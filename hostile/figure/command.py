@@ -18,7 +18,7 @@ from bonsainet.bench.states import in_ascii, kind, machine, program_at
 from bonsainet.cli.command_line import Refused
 from bonsainet.lab.enclosure import refuse_unless_able
 from hostile.figure import drawing, measuring
-from hostile.figure.measuring import Disagreement, Row, measure_frr, measure_programs, measured
+from hostile.figure.measuring import Disagreement, Row, measure_frr, measure_programs, measured, with_frr_of
 from hostile.figure.networks import FAMILIES
 
 KEPT = TOP / "bench" / "measured" / "asked.csv"
@@ -40,12 +40,13 @@ def main(arguments: list[str] | None = None) -> int:
     parser.add_argument(
         "--frr",
         action="store_true",
-        help="measure nothing else: put into the kept rows what FRR takes, which needs root",
+        help="measure nothing else: put what FRR takes into the kept rows that have none, which needs root",
     )
+    parser.add_argument("--anew", action="store_true", help="with --frr: into all kept rows")
     parser.add_argument(
         "--more",
         action="store_true",
-        help="take from the kept rows what Z3 took where it was not given up, and what FRR took",
+        help="take from the kept rows what Z3 took where it was not given up",
     )
     parser.add_argument(
         "--again",
@@ -65,16 +66,16 @@ def main(arguments: list[str] | None = None) -> int:
     if not given.bonsai or not (given.ask or given.frr):
         parser.error("--bonsai and --ask name the programs")
     if given.frr:
-        return _frr(program_at(given.bonsai), given.only, given.most)
+        return _frr(program_at(given.bonsai), given.only, given.most, given.anew)
     if given.again:
         return _again(program_at(given.bonsai), program_at(given.ask), given.limit)
     if not shutil.which("z3"):
         print("asked: the program z3 is not there: install the package z3", file=sys.stderr)
         return 1
     bonsai, ask = program_at(given.bonsai), program_at(given.ask)
-    known = {(row.family, row.size): row for row in read(KEPT)} if given.more else {}
-    rows = [row for row in read(KEPT) if given.only and row.family not in given.only] if given.keep else []
-    frr = KEPT.read_text("ascii").partition("\n")[0].partition("; FRR: ")[2] if given.more else ""
+    known = {(row.family, row.size): row for row in read(KEPT)}
+    rows = [row for row in known.values() if given.only and row.family not in given.only] if given.keep else []
+    frr = KEPT.read_text("ascii").partition("\n")[0].partition("; FRR: ")[2] if known else ""
     load = os.getloadavg()[0]
     measuring.MOST_SECONDS = given.limit
     try:
@@ -84,7 +85,8 @@ def main(arguments: list[str] | None = None) -> int:
             last = None
             for size in family.sizes:
                 if size <= given.most:
-                    last = measured(bonsai, ask, family, size, last, known.get((family.name, size)))
+                    one = known.get((family.name, size))
+                    last = with_frr_of(measured(bonsai, ask, family, size, last, one if given.more else None), one)
                     rows.append(last)
                     print(f"asked: {last}", file=sys.stderr, flush=True)
                     if given.keep:
@@ -110,20 +112,34 @@ def _again(bonsai: Path, ask: Path, limit: int) -> int:
     return 0
 
 
-def _frr(bonsai: Path, only: list[str] | None, most: int) -> int:
-    """Puts what FRR takes into the kept rows that have none."""
-    refuse_unless_able()
+def _frr(bonsai: Path, only: list[str] | None, most: int, anew: bool) -> int:
+    """Puts what FRR takes into the kept rows that have none, or into all. Status 1 where no lab can be, or there was no memory
+    for one: the others are there then."""
+    try:
+        refuse_unless_able()
+    except Refused as why:
+        print(f"asked: {why}", file=sys.stderr)
+        return 1
     told, rows = KEPT.read_text("ascii").partition("\n")[0].removeprefix("# "), read(KEPT)
-    load = os.getloadavg()[0]
+    load, status = os.getloadavg()[0], 0
     for family in FAMILIES:
+        if only and family.name not in only:
+            continue
+        chosen = [row for row in rows if row.family == family.name and row.size <= most]
+        if anew:
+            for row in chosen:
+                row.frr = row.rest = row.frr_after = row.rest_after = None
         before = None
-        for row in (row for row in rows if row.family == family.name and row.size <= most):
-            if row.frr_after is None and (not only or row.family in only):
-                measure_frr(bonsai, family, row, before)
-                print(f"asked: {row}", file=sys.stderr, flush=True)
-                keep(rows, _with_frr(told, load))
+        for row in chosen:
+            try:
+                if measure_frr(bonsai, family, row, before):
+                    print(f"asked: {row}", file=sys.stderr, flush=True)
+                    keep(rows, _with_frr(told, load))
+            except Refused as why:
+                print(f"asked: {family.name} {row.size}: {why}", file=sys.stderr, flush=True)
+                status = 1
             before = row
-    return 0
+    return status
 
 
 def _with_frr(told: str, load: float) -> str:

@@ -14,7 +14,7 @@ from bonsainet.ask.program import Program, Size
 from bonsainet.cli.command_line import Refused
 from bonsainet.configs.network import read_network
 from bonsainet.exporting import frr
-from bonsainet.lab.enclosure import run_plan
+from bonsainet.lab.enclosure import refuse_unless_small, run_plan
 from bonsainet.lab.plan import plan_of
 from hostile.figure.networks import Family
 from hostile.judge import answers
@@ -129,9 +129,11 @@ def _file_of(text: str) -> Iterator[str]:
 
 
 def on_frr(text: str, prefix: str) -> tuple[float, float]:
-    """The processor seconds of all daemons, and the seconds by the clock, until FRR rests."""
+    """The processor seconds of all daemons, and the seconds by the clock, until FRR rests. Refused where there is no memory
+    for so many routers."""
     network = read_network(text, "F")
     plan = plan_of(network, frr.export(network, with_lab_timers=True), [prefix])
+    refuse_unless_small(len(plan.routers))
     try:
         record = run_plan(plan, FRR_SECONDS, QUIET)
     except Refused:
@@ -164,8 +166,15 @@ def measured(bonsai: Path, ask: Path, family: Family, size: int, before: Row | N
     return Row(
         family.name, size, of.routers, of.links, of.groups, of.links_after, next(iter(told.values()), ""), small.seconds,
         found["solver"], found["solver_after"], found["ask"], found["ask_after"],
-        *(known.frr, known.frr_after, known.rest, known.rest_after) if known else (),
     )  # fmt: skip
+
+
+def with_frr_of(row: Row, known: Row | None) -> Row:
+    """A row with what FRR took by a known one: that depends on no program that is measured."""
+    if known is None:
+        return row
+    told = {name: getattr(known, name) for name in ("frr", "frr_after", "rest", "rest_after")}
+    return dataclasses.replace(row, **told)
 
 
 def _known_to_solver(known: Row | None, name: str) -> tuple[str, float] | None:
@@ -186,14 +195,17 @@ def measure_programs(bonsai: Path, ask: Path, family: Family, row: Row) -> None:
 
 
 def is_for_frr(routers: int, smaller: float | None) -> bool:
-    """Whether FRR is started: in a lab that is not too large, where the one of the size before took no minute."""
-    return routers <= MOST_ON_FRR and (smaller is None or smaller <= MOST_SECONDS)
+    """Whether FRR is started: in a lab that is not too large, where it was started at the size before and took no minute."""
+    return routers <= MOST_ON_FRR and smaller is not None and smaller <= MOST_SECONDS
 
 
-def measure_frr(bonsai: Path, family: Family, row: Row, before: Row | None) -> None:
-    """Puts into a row what FRR takes to rest, before and after `compress`. `before` is the row of the size before."""
-    text = family.text(row.size)
-    if is_for_frr(row.routers, before.frr if before else None):
-        row.frr, row.rest = on_frr(text, family.prefix)
-    if is_for_frr(row.groups, before.frr_after if before else None):
-        row.frr_after, row.rest_after = on_frr(compressed(bonsai, text, family.prefix).text, family.prefix)
+def measure_frr(bonsai: Path, family: Family, row: Row, before: Row | None) -> bool:
+    """Puts into a row what FRR takes to rest after `compress` and before it, where that is not known. `before` is the row of the
+    size before. Whether something was put there. Refused where there is no memory for the lab: what was put stays."""
+    was = dataclasses.replace(row)
+    if row.frr_after is None and is_for_frr(row.groups, before.frr_after if before else 0.0):
+        small = compressed(bonsai, family.text(row.size), family.prefix)
+        row.frr_after, row.rest_after = on_frr(small.text, family.prefix)
+    if row.frr is None and is_for_frr(row.routers, before.frr if before else 0.0):
+        row.frr, row.rest = on_frr(family.text(row.size), family.prefix)
+    return row != was

@@ -52,10 +52,10 @@ def campus_of(blocks: int) -> str:
 
 
 FAMILIES = (
-    Family("fat tree", fat_tree_text, (4, 6, 8, 10, 12, 20, 30), "10.0.0.0/24"),
-    Family("ring", synthetic.ring, (16, 64, 256, 1000, 2000, 4000), "10.0.0.0/24"),
-    Family("full mesh", synthetic.mesh, (8, 16, 32, 64, 128, 256), "10.0.0.0/24"),
-    Family("data centre", data_centre, (8, 32, 128, 512), "10.0.0.0/24"),
-    Family("internet", internet_of, (8, 16, 32, 64, 128, 256, 512), "10.0.0.0/24"),
-    Family("campus", campus_of, (2, 8, 32, 100), "10.0.0.0/24"),
+    Family("fat tree", fat_tree_text, (4, 6, 8, 10, 12, 20, 30, 46), "10.0.0.0/24"),
+    Family("ring", synthetic.ring, (16, 64, 128, 256, 1000, 2000, 4000), "10.0.0.0/24"),
+    Family("full mesh", synthetic.mesh, (8, 16, 32, 64, 128, 256, 362), "10.0.0.0/24"),
+    Family("data centre", data_centre, (8, 32, 128, 512, 2048, 4088), "10.0.0.0/24"),
+    Family("internet", internet_of, (8, 16, 32, 64, 128, 256, 512, 1024, 2048, 4096), "10.0.0.0/24"),
+    Family("campus", campus_of, (2, 8, 32, 100, 256), "10.0.0.0/24"),
 )

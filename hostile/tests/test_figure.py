@@ -79,15 +79,47 @@ def test_what_the_solver_took_is_taken_from_a_known_row(monkeypatch):
     ring = next(family for family in networks.FAMILIES if family.name == "ring")
     known = measuring.Row("ring", 16, 16, 16, 9, 8, "yes", 0.5, INF, 0.75, 0.5, 0.5, 3.0, None, 4.0)
     row = measuring.measured("bonsai", "ask", ring, 16, None, known)
-    assert (row.solver, row.solver_after, row.ask, row.compress, row.frr) == (40.0, 0.75, 0.25, 0.02, 3.0)
+    assert (row.solver, row.solver_after, row.ask, row.compress) == (40.0, 0.75, 0.25, 0.02)
     with pytest.raises(measuring.Disagreement):
         measuring.measured("bonsai", "ask", ring, 16, None, measuring.Row(**{**vars(known), "answer": "no"}))
 
 
 def test_frr_is_not_started_where_it_took_a_minute_or_the_lab_is_too_large():
-    assert measuring.is_for_frr(20, None) and measuring.is_for_frr(measuring.MOST_ON_FRR, 60.0)
+    assert measuring.is_for_frr(20, 0.0) and measuring.is_for_frr(measuring.MOST_ON_FRR, 60.0)
     assert not measuring.is_for_frr(20, 60.5) and not measuring.is_for_frr(20, INF)
-    assert not measuring.is_for_frr(measuring.MOST_ON_FRR + 1, None)
+    assert not measuring.is_for_frr(20, None) and not measuring.is_for_frr(measuring.MOST_ON_FRR + 1, 0.0)
+
+
+def test_frr_is_started_for_what_is_not_known_and_where_there_is_memory(monkeypatch):
+    """What is small goes first; where there is no memory for the large network, it can be measured later."""
+    started = []
+
+    def on_frr(text, _prefix):
+        started.append(text)
+        if text == "large" and len(started) < 3:
+            raise Refused("a lab takes more than half of the memory")
+        return 2.0, 5.0
+
+    small = measuring.Compressed(measuring.Size(1, 16, 16, 9, 8), "small", 0.02)
+    monkeypatch.setattr(measuring, "compressed", lambda *_: small)
+    monkeypatch.setattr(measuring, "on_frr", on_frr)
+    family = networks.Family("ring", lambda _: "large", (16,), "10.0.0.0/24")
+    row = measuring.Row("ring", 16, 16, 16, 9, 8, "yes", 0.5, INF, 0.75, 0.5, 0.5)
+    with pytest.raises(Refused):
+        measuring.measure_frr("bonsai", family, row, None)
+    assert (row.frr, row.frr_after, started) == (None, 2.0, ["small", "large"])
+    assert measuring.measure_frr("bonsai", family, row, None) and row.frr == 2.0
+    assert not measuring.measure_frr("bonsai", family, row, None) and started == ["small", "large", "large"]
+    too_large = measuring.Row("ring", 64, 64, 64, 33, 32, "yes", 0.5, INF, 0.75, 0.5, 0.5)
+    row.frr = row.frr_after = 61.0
+    assert not measuring.measure_frr("bonsai", family, too_large, row)
+
+
+def test_a_row_is_measured_again_with_what_frr_took():
+    again = measuring.Row("ring", 16, 16, 16, 9, 8, "yes", 0.5, INF, 0.75, 0.5, 0.5)
+    assert measuring.with_frr_of(again, None) == again
+    found = measuring.with_frr_of(again, ROW)
+    assert (found.compress, found.solver_after, found.frr_after, found.rest_after) == (0.5, 0.75, 3.0, 4.0)
 
 
 @pytest.mark.skipif(not smt.is_there(), reason="the package z3 is not there")
