@@ -149,6 +149,8 @@ class Stanza:
     def by_word(self) -> dict[str, list[Line]]:
         """The lines of the body by their first word, in their order."""
         body: Any = self.body
+        if not body:
+            return {}
         found: dict[str, list[Line]] | None = body.facts and body.facts.get(_lines_by_word)
         return self.fact(_lines_by_word) if found is None else found
 
@@ -203,9 +205,11 @@ class Router:
 
     def with_head(self, *words: str) -> Iterator[Stanza]:
         """The stanzas whose head begins with these words, in order."""
+        found = self._by_word.get(words[0], ())
+        if len(words) == 1 or not found:
+            return iter(found)
         wanted, count = list(words), len(words)
-        found = self._by_word.get(words[0], [])
-        return iter(found) if count == 1 else (stanza for stanza in found if stanza.head.words[:count] == wanted)
+        return (stanza for stanza in found if stanza.head.words[:count] == wanted)
 
     @property
     def _by_word(self) -> dict[str, list[Stanza]]:
@@ -262,7 +266,7 @@ def read_text(text: str, file: str) -> list[Router]:
 
 def text_of(routers: Iterable[Router]) -> str:
     """The text of routers, each ended by ``end``."""
-    return "".join("".join(f"{line.text}\n" for line in router.lines) + "end\n" for router in routers)
+    return "".join(["\n".join([*[line.text for line in router.lines], "end\n"]) for router in routers])
 
 
 def _router(stanzas: list[Stanza]) -> Router:

@@ -32,6 +32,7 @@ LONG_LINE = rule(
 )
 
 PAGED = re.compile(r"-[\s-]*\(?[Mm]ore|\x08")
+PAGED_SIGNS = ("more", "More", "\x08")
 MORE = re.compile(r"^\s*<?-[\s-]*\(?[Mm]ore\b[^-]*-+>?\s*(?:\r|\x08|\x1b\[[0-9;]*[A-Za-z])*")
 PROMPTED = re.compile(
     r"^[A-Za-z0-9][\w.-]*(?:/\w+)?(?:\([\w.-]+\))?[#>](?:\s*(?:sh|show|term|terminal|wr|write|more|exit|quit|logout|en|enable|copy)\b.*)?\s*$"
@@ -54,29 +55,33 @@ FREE_TEXT = (
     "banner",
 )
 LONGEST = 1000
-PLAIN = re.compile(r"[\t\n\x20-\x7e]*")
-LONG = re.compile(rf"\n[^\n]{{{LONGEST + 1}}}")
+PLAIN = bytes([*b"\t\n", *range(0x20, 0x7F)])
 
 
-def cleaned(lines: list[Line], log: Log, is_frr: bool) -> list[Line]:
-    """The lines of a file without what is no line of a configuration. Each kind is looked for in the whole text first, as
-    most files have few of them."""
-    text = _text_of(lines)
-    if PAGED.search(text):
+def cleaned(lines: list[Line], text: str, log: Log, is_frr: bool) -> list[Line]:
+    """The lines of a file, whose text this is by `text_behind`, without what is no line of a configuration. Each kind is
+    looked for in the whole text first, as most files have few of them."""
+    if any(sign in text for sign in PAGED_SIGNS) and PAGED.search(text):
         lines = list(_without_paging(lines, log))
-        text = _text_of(lines)
+        text = text_behind(lines)
     if not is_frr and "\nbanner" in text:
         lines = list(_without_banners(lines, log))
     if "#" in text or ">" in text or "\nsh" in text:
         lines = list(_without_prompts(lines, log))
     if "certificate" in text:
         lines = list(_without_certificates(lines, log))
-    return lines if PLAIN.fullmatch(text) and not LONG.search(text) else [_ascii(line, log) for line in lines]
+    is_plain = _is_plain(text) and max([len(line.text) for line in lines], default=0) <= LONGEST
+    return lines if is_plain else [_ascii(line, log) for line in lines]
 
 
-def _text_of(lines: list[Line]) -> str:
+def text_behind(lines: list[Line]) -> str:
     """The text of lines, with the end of a line before each."""
-    return "".join([f"\n{line.text}" for line in lines])
+    return "\n".join(["", *[line.text for line in lines]])
+
+
+def _is_plain(text: str) -> bool:
+    """Whether a text has nothing but tabs, ends of lines, and the letters of ASCII that can be seen."""
+    return text.isascii() and not text.encode("ascii").translate(None, PLAIN)
 
 
 def _without_paging(lines: list[Line], log: Log) -> Iterator[Line]:
@@ -148,7 +153,7 @@ def _without_certificates(lines: list[Line], log: Log) -> Iterator[Line]:
 def _ascii(line: Line, log: Log) -> Line:
     """The line with `?` for what is outside ASCII, and cut, where it has no bearing; others are refused."""
     text = line.text
-    is_plain = PLAIN.fullmatch(text) is not None
+    is_plain = _is_plain(text)
     if is_plain and len(text) <= LONGEST:
         return line
     if not is_free_text(line):

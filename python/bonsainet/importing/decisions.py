@@ -95,6 +95,11 @@ class Decisions:
             return None
         return next((found for found in self.all if is_drop(found.verb) and found.covers(line, line.text)), None)
 
+    @property
+    def has_drops(self) -> bool:
+        """Whether a decision drops lines."""
+        return any(is_drop(found.verb) for found in self.all)
+
     def own_as(self) -> dict[str, Decision]:
         """The routers that decisions about `--own-as` name, each with its decision."""
         return {name: found for found in self.all if found.verb == OWN_AS for name in found.pattern.split()}
@@ -175,6 +180,8 @@ def is_drop(verb: str) -> bool:
 def units(folder: Folder) -> Iterator[Unit]:
     """What the decisions drop, unit by unit."""
     decisions = folder.decisions or Decisions()
+    if not decisions.has_drops:
+        return
     for router in folder.routers:
         for stanza in router.stanzas:
             if decisions.drop_of(stanza.head):
@@ -188,7 +195,7 @@ def units(folder: Folder) -> Iterator[Unit]:
 def apply_drops(folder: Folder, guarded: dict[Place, str]) -> None:
     """Leaves out what the decisions drop, and keeps a note of it in the text. `guarded` says of which lines the drop
     makes another network."""
-    if not any(is_drop(found.verb) for found in folder.own_decisions.all):
+    if not folder.own_decisions.has_drops:
         return
     for router in folder.routers:
         kept = []

@@ -10,7 +10,7 @@ from ipaddress import AddressValueError, IPv4Address, IPv4Interface, IPv4Network
 from typing import TYPE_CHECKING
 
 from bonsainet.importing.rule import Log
-from bonsainet.configs.text import Line, Place, Router, Stanza
+from bonsainet.configs.text import Line, Place, Router, Stanza, text_of
 
 if TYPE_CHECKING:
     from bonsainet.importing.decisions import Decisions
@@ -76,7 +76,8 @@ class Folder:
     """All routers, the raw text of each line by its place, the log and the decisions.
 
     `takes` says whether the program takes a line in a scope as one that it ignores or knows. `held` are the well-known
-    communities that a line sets, each with the one that stands for it.
+    communities that a line sets, each with the one that stands for it. `accepted` is the text of the routers as the program
+    took it.
     """
 
     routers: list[Source]
@@ -85,6 +86,12 @@ class Folder:
     decisions: Decisions | None = None
     takes: Callable[[str, str], bool] = lambda _scope, _text: False
     held: dict[str, str] = dataclasses.field(default_factory=dict)
+    accepted: str | None = None
+
+    @property
+    def text(self) -> str:
+        """The text of the routers."""
+        return text_of(self.routers) if self.accepted is None else self.accepted
 
     @property
     def own_decisions(self) -> Decisions:
@@ -96,10 +103,10 @@ class Folder:
     def up(self) -> Up:
         """The up interfaces by their addresses."""
         return {
-            int(address): (router, stanza)
+            numbers[0]: (router, stanza)
             for router in self.routers
             for stanza in router.interfaces
-            if (address := address_of(stanza))
+            if (numbers := numbers_of(stanza))
         }
 
 
@@ -145,6 +152,16 @@ def address_given(stanza: Stanza) -> IPv4Interface | None:
 def address_of(stanza: Stanza) -> IPv4Interface | None:
     """The primary address of an up interface, else none."""
     return stanza.fact(_address_if_up)
+
+
+def numbers_of(stanza: Stanza) -> tuple[int, int] | None:
+    """The primary address of an up interface and its mask as numbers, else none."""
+    return stanza.fact(_numbers_if_up)
+
+
+def _numbers_if_up(body: list[Line]) -> tuple[int, int] | None:
+    found = _address_if_up(body)
+    return (int(found), int(found.netmask)) if found else None
 
 
 def _address_if_up(body: list[Line]) -> IPv4Interface | None:

@@ -8,6 +8,7 @@ import functools
 import re
 
 from bonsainet.ask.program import TOP
+from bonsainet.importing.rewriting import fits
 
 PAGE = TOP / "docs" / "use" / "LINES.md"
 SCOPES = {"top": "top", "interface": "interface", "router bgp": "bgp", "router ospf": "ospf", "route-map": "entry"}
@@ -36,31 +37,26 @@ def heads_of(title: str) -> dict[str, tuple[tuple[str, ...], ...]]:
 def longest(words: list[str], title: str, scope: str) -> int:
     """The length of the longest head of a table that begins the words, 0 where none does. `*` and `NAME` stand for any
     word."""
-    near = _near(title, scope)
-    if tuple(words[:1]) not in near:
+    near = _near(title, scope).get(words[0]) if words else None
+    if not near:
         return 0
-    keys = (tuple(words[:1]), tuple(words[:2]), (*words[:1], "*", *words[2:3]))
-    fitting = (
-        len(head)
-        for key in keys
-        for head in near.get(key, ())
-        if len(words) >= len(head) and all(want in ANY or want == word for want, word in zip(head, words))
-    )
-    return max(fitting, default=0)
+    found = 0
+    for key in ((), tuple(words[1:2]), ("*", *words[2:3])):
+        for head in near.get(key, ()):
+            if len(head) > found and fits(words, head):
+                found = len(head)
+    return found
 
 
 @functools.cache
-def _near(title: str, scope: str) -> dict[tuple[str, ...], list[tuple[str, ...]]]:
-    """The heads of a scope of a table by their first word alone, by their first two, or, where any word may be second, by
-    the first and the third. Each first word is a key."""
-    found: dict[tuple[str, ...], list[tuple[str, ...]]] = {}
-    for head in heads_of(title).get(scope, ()):
-        alone = found.setdefault(head[:1], [])
-        is_any = head[1:2] in (("*",), ("NAME",))
-        if len(head) == 1 or (is_any and (len(head) == 2 or head[2] in ANY)):
-            alone.append(head)
-        else:
-            found.setdefault((head[0], "*", head[2]) if is_any else head[:2], []).append(head)
+def _near(title: str, scope: str) -> dict[str, dict[tuple[str, ...], list[list[str]]]]:
+    """The heads of a scope of a table by their first word, and below it with none, by their second, or, where any word may
+    be second, by that and the third."""
+    found: dict[str, dict[tuple[str, ...], list[list[str]]]] = {}
+    for given in heads_of(title).get(scope, ()):
+        head = ["*" if word in ANY else word for word in given]
+        key = tuple(head[1:3] if head[1:2] == ["*"] else head[1:2])
+        found.setdefault(head[0], {}).setdefault(() if key and key[-1] == "*" else key, []).append(head)
     return found
 
 

@@ -26,8 +26,10 @@ def judge(folder: Folder, program: Program, excuse: Excuse) -> None:
     `excuse` may take a refused stanza out of the router for good, with a rule's reason; then it is none.
     """
     with progress("text judged"):
-        is_accepted = not folder.log.refusals and program.refusal(text_of(folder.routers)) is None
+        text = text_of(folder.routers)
+        is_accepted = not folder.log.refusals and program.refusal(text) is None
     if is_accepted:
+        folder.accepted = text
         return
     for router in counted_off("routers judged", len(folder.routers), folder.routers):
         judge_router(folder, router, program, excuse)

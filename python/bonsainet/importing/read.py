@@ -17,7 +17,7 @@ from pathlib import Path
 from bonsainet.cli import streams
 from bonsainet.cli.command_line import Refused, one_line, read_file
 from bonsainet.cli.progress import counted_off
-from bonsainet.importing.cleaning import cleaned
+from bonsainet.importing.cleaning import cleaned, text_behind
 from bonsainet.importing.daemons import without_stopped
 from bonsainet.importing.folder import Dialect, Folder, Source
 from bonsainet.importing.names import same_names, told_of_same
@@ -88,9 +88,14 @@ FRR_TOP = re.compile(
 )
 FRR_LEAVES = re.compile(r"(exit|quit|exit-vrf|exit-route-map|exit-interface|exit-router)$")
 # (of texts with the end of a line before each line)
-FRR_SIGNS = re.compile(
-    r"\n\s*(frr version|frr defaults|service integrated-vtysh-config|bgp community-list|no bgp ebgp-requires-policy)"
+SIGNS = (
+    "frr version",
+    "frr defaults",
+    "service integrated-vtysh-config",
+    "bgp community-list",
+    "no bgp ebgp-requires-policy",
 )
+FRR_SIGNS = re.compile(rf"\n\s*({'|'.join(SIGNS)})")
 OTHERS = (
     ("NX-OS", re.compile(r"\n(feature (bgp|ospf|interface-vlan|lacp)|vdc \S+ id )")),
     ("Arista EOS", re.compile(r"\n(! device: .*EOS|service routing protocols model)")),
@@ -100,6 +105,7 @@ OTHERS = (
         re.compile(r"\n(## Last commit|set (system|interfaces|protocols) |(system|interfaces|protocols) \{)"),
     ),
 )
+ANY_OTHER = re.compile(r"\n(?:" + "|".join(signs.pattern.removeprefix(r"\n") for _, signs in OTHERS) + ")")
 # The first words of lines that a router has, and of stanzas whose parts are put together.
 OF_ROUTERS = {"hostname", "interface", "router", "int"}
 
@@ -232,7 +238,7 @@ def _read_router_folder(top: Path, path: Path, found: _Reading) -> None:
     whole = Source("", dialect=Dialect.FRR, file=str(path.relative_to(top)))
     for file in files:
         lines = _lines(file, str(file.relative_to(top)), folder)
-        whole.stanzas += _frr_stanzas(cleaned(lines, folder.log, True), folder.log)
+        whole.stanzas += _frr_stanzas(cleaned(lines, text_behind(lines), folder.log, True), folder.log)
     whole.stanzas = without_stopped(whole.stanzas, path, folder.log)
     for other in FRR_OTHERS:
         if (path / other).is_file() and (path / other).read_text("latin-1").strip():
@@ -270,14 +276,14 @@ def _lines(path: Path, name: str, folder: Folder) -> list[Line]:
 
 def _routers_of_file(path: Path, name: str, folder: Folder, is_frr: bool, stem: str) -> list[Source]:
     lines = _lines(path, name, folder)
-    text = "\n" + "\n".join([line.text for line in lines])
-    is_frr = is_frr or bool(FRR_SIGNS.search(text))
-    for system, signs in OTHERS:
-        if not is_frr and signs.search(text):
+    text = text_behind(lines)
+    is_frr = is_frr or any(sign in text for sign in SIGNS) and bool(FRR_SIGNS.search(text))
+    for system, signs in OTHERS if not is_frr and ANY_OTHER.search(text) else ():
+        if signs.search(text):
             raise Refused(
                 f"{name}: written for {system}, whose lines and defaults are others; configurations of Cisco IOS and FRR are read"
             )
-    pieces = _pieces(cleaned(lines, folder.log, is_frr), folder.log)
+    pieces = _pieces(cleaned(lines, text, folder.log, is_frr), folder.log)
     found: list[Source] = []
     for piece in pieces:
         if not any(line.words and line.words[0] in OF_ROUTERS for line in piece):

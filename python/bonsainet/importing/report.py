@@ -138,12 +138,14 @@ def report_of(folder: Folder) -> Report:
     """Compares what was read with what stands now. Silent where a line changed and no rule says why."""
     stands: dict[Place, Line] = {}
     more: dict[Place, list[Line]] = defaultdict(list)
+    count = 0
     for router in folder.routers:
         for line in router.lines:
-            if line.place in stands:
-                more[line.place].append(line)
+            stands.setdefault(line.place, line)
+            if len(stands) > count:
+                count += 1
             else:
-                stands[line.place] = line
+                more[line.place].append(line)
     refused = {found.place for found in folder.log.refusals}
     told: dict[tuple[int, ...], tuple[str, str]] = {}
     changes = []

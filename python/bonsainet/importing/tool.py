@@ -28,7 +28,8 @@ from bonsainet.importing.rules.options import Options
 from bonsainet.importing.scrubbing import scrub
 from bonsainet.importing.suggest import skeleton
 from bonsainet.ask.program import NotAnswered, Program
-from bonsainet.configs.text import Line, Stanza, text_of
+from bonsainet.ask.shares import meanwhile
+from bonsainet.configs.text import Line, Stanza
 from bonsainet.cli.words import counted
 
 REPORT = re.compile(
@@ -170,12 +171,12 @@ def _imported_by(words: argparse.Namespace) -> Report:
     """The import that the words of the command line ask for."""
     decisions = decisions_in(words.decisions) if words.decisions else None
     program = Program()
-    report = imported(
-        read_given(words.given, words.skip),
-        program,
-        decisions,
-        Options.of(words.own_as, words.stub, words.scrub, words.area),
-    )
+    folder = read_given(words.given, words.skip)
+    options = Options.of(words.own_as, words.stub, words.scrub, words.area)
+    # (the launcher is asked which program it is while the rules work)
+    _ = program.path
+    with meanwhile(lambda: program.identity):
+        report = imported(folder, program, decisions, options)
     return dataclasses.replace(report, program=program.identity)
 
 
@@ -215,5 +216,5 @@ def _main(argv: list[str] | None) -> int:
         )
     if words.report:
         sys.stderr.writelines(f"bonsai-import: {printable(warning)}\n" for warning in report.folder.log.warnings)
-    sys.stdout.write(text_of(report.folder.routers))
+    sys.stdout.write(report.folder.text)
     return 0

@@ -32,7 +32,6 @@ from bonsainet.asking.reports import ClassAnswer, Count, Part, reports_of
 from bonsainet.configs.network import Network as Parsed
 from bonsainet.configs.network import read_network
 from bonsainet.configs.profile import device_of
-from bonsainet.configs.text import text_of
 from bonsainet.library.answers import Answer, Reply
 from bonsainet.library.calls import call, errors_of, program, read
 from bonsainet.library.classes import DestClass
@@ -104,7 +103,7 @@ class Network:
         """The network that an import came to. ImportRefused where lines are left to a person."""
         if report.folder.log.refusals:
             raise ImportRefused(name, report)
-        return cls(text_of(report.folder.routers), name, report)
+        return cls(report.folder.text, name, report)
 
     def write(self, path: FilePath) -> None:
         """Writes the text to a file. OSError where that cannot be written."""

@@ -2,6 +2,7 @@
 from __future__ import annotations
 
 import functools
+from collections.abc import Iterable
 
 from bonsainet.importing.folder import Dialect, Folder, Source, an_address, has
 from bonsainet.importing.rewriting import begins, cut_lines, first_words
@@ -110,35 +111,27 @@ def activate(folder: Folder, _options: Options) -> None:
         if not process:
             continue
         by_default = not has(process, "no", "bgp", "default", "ipv4-unicast")
-        peers = dict.fromkeys(
-            line.words[1] for line in process.body if line.words[:1] == ["neighbor"] and len(line.words) > 2
-        )
-        given = _named(process, "neighbor") if not by_default else set(peers)
-        inactive = set(peers) - given | set(peers) & _named(process, "no", "neighbor")
+        lines = process.by_word.get("neighbor", [])
+        peers = dict.fromkeys(line.words[1] for line in lines if len(line.words) > 2)
+        given = _named(lines, 1) if not by_default else set(peers)
+        inactive = set(peers) - given
+        if negated := [line for line in process.by_word.get("no", ()) if line.words[1:2] == ["neighbor"]]:
+            inactive |= set(peers) & _named(negated, 2)
         for peer in peers:
             if peer not in inactive and not an_address(peer):
-                line = next(line for line in process.body if line.words[:2] == ["neighbor", peer])
+                line = next(line for line in lines if line.words[1:2] == [peer])
                 folder.log.refuse(
                     line,
                     IPV6_PEER,
                     "a neighbour without an IPv4 address can carry IPv4 routes here, and the profile has no such sessions",
                 )
-        cut_lines(
-            process,
-            folder.log,
-            ACTIVATION,
-            functools.partial(_goes, inactive=inactive),
-            ("neighbor", "no", "bgp"),
-        )
+        heads = ("neighbor", "no", "bgp") if inactive else ("no", "bgp")
+        cut_lines(process, folder.log, ACTIVATION, functools.partial(_goes, inactive=inactive), heads)
 
 
-def _named(process: Stanza, *head: str) -> set[str]:
-    """The neighbours that lines of this head activate, or no longer."""
-    count = len(head)
-    lines = (line.words for line in process.body)
-    return {
-        words[count] for words in lines if words[:count] == list(head) and words[count + 1 : count + 2] == ["activate"]
-    }
+def _named(lines: Iterable[Line], place: int) -> set[str]:
+    """The neighbours, at this place of their words, that lines activate, or no longer."""
+    return {line.words[place] for line in lines if line.words[place + 1 : place + 2] == ["activate"]}
 
 
 def _goes(line: Line, inactive: set[str]) -> bool:

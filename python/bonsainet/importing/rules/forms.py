@@ -53,8 +53,6 @@ INSIDE = {
     "template": 3,
 }
 
-MOST = max([*TOP.values(), *INSIDE.values()])
-
 
 def refuse_short(folder: Folder, _options: Options) -> None:
     """Refuses lines that have fewer words than their kind."""
@@ -77,22 +75,30 @@ def refuse_short(folder: Folder, _options: Options) -> None:
 
 def _short_in(stanza: Stanza) -> list[Line]:
     """The lines of a body that have fewer words than their kind."""
-    by_word = stanza.by_word
-    lines = [line for word in by_word.keys() & _by_first_word(False) for line in by_word[word]]
-    found = {id(line) for line in lines if _is_short(line, False)}
-    return [line for line in stanza.body if id(line) in found] if found else []
+    most = _most_words(False)
+    return [
+        line
+        for line in stanza.body
+        if (words := line.words) and len(words) < most.get(words[0], 0) and _is_short(line, False)
+    ]
 
 
 def _is_short(line: Line, is_top: bool) -> bool:
     words = line.words
     count = len(words)
     return (
-        0 < count < MOST
-        and not line.is_blank
+        not line.is_blank
+        and count < _most_words(is_top).get(words[0], 0)
         and _is_cut_short(
             is_top, count, (words[0], "*" if words[0] == "neighbor" else words[1] if count > 1 else "", *words[2:3])
         )
     )
+
+
+@functools.cache
+def _most_words(is_top: bool) -> dict[str, int]:
+    """The first words of the kinds of lines, each with the most words of which a kind that begins so has not fewer."""
+    return {word: max(least for _, least in kinds) for word, kinds in _by_first_word(is_top).items()}
 
 
 @functools.lru_cache(maxsize=1 << 12)

@@ -4,13 +4,14 @@ from __future__ import annotations
 import dataclasses
 import functools
 from collections import defaultdict
+from collections.abc import Callable
 
 from bonsainet.importing.folder import Folder
 from bonsainet.importing.rewriting import fits, rewrite
 from bonsainet.importing.rule import Rule
 from bonsainet.importing.rules.idle_heads import SUBJECTS, TIMERS
 from bonsainet.importing.rules.options import Options
-from bonsainet.configs.text import Line, Place, Stanza
+from bonsainet.configs.text import Place, Stanza
 
 SCOPES = {"interface": "interface", "route-map": "entry"}
 PROTOCOLS = {"bgp": "bgp", "ospf": "ospf"}
@@ -37,9 +38,8 @@ class Near:
     by_third: dict[str, list[tuple[int, list[str]]]] = dataclasses.field(default_factory=lambda: defaultdict(list))
 
 
-def subject_of(line: Line, scope: str) -> Rule | None:
-    """The rule of the first subject whose heads of a scope cover a line, or none."""
-    words = line.words
+def subject_of(words: list[str], scope: str) -> Rule | None:
+    """The rule of the first subject whose heads of a scope cover the words of a line, or none."""
     near = _heads_of(scope).get(words[0]) if words else None
     if not near:
         return None
@@ -80,17 +80,32 @@ def cut_idle(folder: Folder, _options: Options) -> None:
 def _is_cut(folder: Folder, stanza: Stanza, refused: set[Place]) -> bool:
     scope = scope_of(stanza)
     if scope:
-        rewrite(stanza, folder.log, functools.partial(_decision, folder, scope=scope), _heads_of(scope).keys())
+        _cut_inside(folder, stanza, scope)
         return False
-    found = subject_of(stanza.head, "top")
+    found = subject_of(stanza.head.words, "top")
     if stanza.head.is_blank or not found or stanza.head.place in refused or folder.takes("top", stanza.head.text):
         return False
     folder.log.cut(stanza.lines, found)
     return True
 
 
-def _decision(folder: Folder, line: Line, scope: str) -> tuple[Rule, list[str]] | None:
-    found = subject_of(line, scope)
-    if not found or (found is TIMERS.rule and STRICT & set(line.words)):
+def _cut_inside(folder: Folder, stanza: Stanza, scope: str) -> None:
+    """Cuts the lines of a body that have no bearing."""
+    takes, heads = folder.takes, _heads_of(scope)
+    cut = {
+        id(line): found
+        for line in stanza.body
+        if line.words and line.words[0] in heads and (found := _cutting(takes, scope, line.text))
+    }
+    if cut:
+        rewrite(stanza, folder.log, lambda line: (cut[id(line)], []) if id(line) in cut else None)
+
+
+@functools.lru_cache(maxsize=1 << 16)
+def _cutting(takes: Callable[[str, str], bool], scope: str, text: str) -> Rule | None:
+    """The rule that cuts a line of this text, if one does. Configurations repeat their lines."""
+    words = text.split()
+    found = subject_of(words, scope)
+    if not found or (found is TIMERS.rule and STRICT & set(words)) or takes(scope, text):
         return None
-    return None if folder.takes(scope, line.text) else (found, [])
+    return found

@@ -6,7 +6,6 @@ import functools
 from collections import defaultdict
 from collections.abc import Callable, Iterator
 from ipaddress import IPv4Address, IPv4Network
-from operator import itemgetter
 
 from bonsainet.importing.folder import (
     Dialect,
@@ -19,6 +18,7 @@ from bonsainet.importing.folder import (
     has,
     name_of,
     network_of,
+    numbers_of,
 )
 from bonsainet.importing.rewriting import cut_lines, rewrite
 from bonsainet.importing.rule import Rule, rule
@@ -75,7 +75,8 @@ MASKS = "mask-mismatch"
 @dataclasses.dataclass
 class Peer:
     """A neighbour of a process: its address and the word that names it, the router and interface that have it (none
-    where it is not in the folder), the own interface towards it, and its lines as they stood when it was looked for."""
+    where it is not in the folder), the own interface towards it, and its lines as they stood when it was looked for, those
+    that are the first of their kind by the word behind its name."""
 
     router: Source
     process: Stanza
@@ -84,23 +85,22 @@ class Peer:
     near: Stanza | None
     name: str
     lines: list[Line]
+    firsts: dict[str, Line]
 
-    def line(self, *words: str) -> Line | None:
+    def line(self, word: str, *more: str) -> Line | None:
         """Its first line with these words."""
-        wanted, end = list(words), 2 + len(words)
-        for line in self.lines:
-            if line.words[2:end] == wanted:
-                return line
-        return None
+        if not more:
+            return self.firsts.get(word)
+        wanted, end = [word, *more], 3 + len(more)
+        return next((line for line in self.lines if line.words[2:end] == wanted), None)
 
     @property
     def is_on_link(self) -> bool:
         """Whether both ends have an interface in one subnet."""
         if not self.far or not self.near:
             return False
-        far, near = address_of(self.far[1]), address_of(self.near)
-        mask = int(near.netmask)
-        return int(far.netmask) == mask and not (int(far) ^ int(near)) & mask
+        far, near = numbers_of(self.far[1]), numbers_of(self.near)
+        return far[1] == near[1] and not (far[0] ^ near[0]) & near[1]
 
 
 class Ends:
@@ -115,7 +115,7 @@ class Ends:
         """The neighbour of the far router that names the near interface, or none."""
         if not peer.far or not peer.near:
             return None
-        return self.at.get((id(peer.far[0]), int(address_of(peer.near))))
+        return self.at.get((id(peer.far[0]), numbers_of(peer.near)[0]))
 
     def session(self, peer: Peer) -> Peer | None:
         """The other end of a session that no line shuts, none where there is no such session. A stub is none: nothing is
@@ -131,10 +131,11 @@ def peers_of(router: Source, up: Up | None = None) -> Iterator[Peer]:
     if not process:
         return
     own = _Subnets(router)
-    for name, lines in process.fact(_named_neighbors).items():
+    for name, (lines, firsts) in process.fact(_named_neighbors).items():
         if address := an_address(name):
             number = int(address)
-            yield Peer(router, process, address, up.get(number) if up else None, own.of(number), name, lines)
+            far = up.get(number) if up else None
+            yield Peer(router, process, address, far, own.of(number), name, lines, firsts)
 
 
 class _Subnets:
@@ -143,34 +144,34 @@ class _Subnets:
     def __init__(self, router: Source) -> None:
         self.by_mask: dict[int, dict[int, list[tuple[int, int, Stanza]]]] = {}
         for place, stanza in enumerate(router.interfaces):
-            if found := address_of(stanza):
-                own, mask = int(found), int(found.netmask)
+            if found := numbers_of(stanza):
+                own, mask = found
                 self.by_mask.setdefault(mask, {}).setdefault(own & mask, []).append((place, own, stanza))
 
     def of(self, address: int) -> Stanza | None:
         """The first interface in whose subnet an address is that is not its own."""
-        found = [
-            (place, stanza)
-            for mask, by_base in self.by_mask.items()
-            for place, own, stanza in by_base.get(address & mask, ())
-            if own != address
-        ]
-        return min(found, key=itemgetter(0))[1] if found else None
+        first, found = None, None
+        for mask, by_base in self.by_mask.items():
+            for place, own, stanza in by_base.get(address & mask, ()):
+                if own != address and (first is None or place < first):
+                    first, found = place, stanza
+        return found
 
 
-def _named_neighbors(body: list[Line]) -> dict[str, list[Line]]:
-    """The neighbours that a line of their own names, each with its lines, those with `no` among them."""
+def _named_neighbors(body: list[Line]) -> dict[str, tuple[list[Line], dict[str, Line]]]:
+    """The neighbours that a line of their own names, each with its lines, those with `no` among them, and the first of each
+    kind."""
     lines: dict[str, list[Line]] = defaultdict(list)
-    names: dict[str, None] = {}
+    names: dict[str, dict[str, Line]] = {}
     for line in body:
         words = line.words
         if len(words) > 1 and words[0] == "neighbor":
             lines[words[1]].append(line)
             if len(words) > 2:
-                names[words[1]] = None
+                names.setdefault(words[1], {}).setdefault(words[2], line)
         elif len(words) > 2 and words[0] == "no" and words[1] == "neighbor":
             lines[words[2]].append(line)
-    return {name: lines[name] for name in names}
+    return {name: (lines[name], firsts) for name, firsts in names.items()}
 
 
 def numbers(folder: Folder, _options: Options) -> None:

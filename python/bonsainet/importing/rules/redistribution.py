@@ -112,7 +112,9 @@ def default_routes(folder: Folder, _options: Options) -> None:
 
 def _default_lines(stanza: Stanza) -> list[Line]:
     """The lines of a stanza that make a default route."""
-    found = [line for word in DEFAULT_WORDS for line in stanza.by_word.get(word, ()) if _is_default(stanza, line)]
+    by_word = stanza.by_word
+    near = [word for word in DEFAULT_WORDS if word in by_word]
+    found = [line for word in near for line in by_word[word] if _is_default(stanza, line)] if near else []
     inside = [line for line in stanza.body if any(line is it for it in found)] if found else []
     return [stanza.head, *inside] if _is_default(stanza, stanza.head) else inside
 
