@@ -26,6 +26,8 @@ from bonsainet.ask.where import Identity, NoProgram, identity_of, is_file_of_one
 
 TOP = Path(__file__).resolve().parents[3]
 LOWEST = 3
+# (as much as Linux gives anyone)
+LARGE_PIPE = 1 << 20
 
 
 BONSAI, ASK, ALL = "bonsai", "bonsai-ask", "bonsai-all"
@@ -190,6 +192,9 @@ class Program:
             room.enter_context(of_this_thread().holding(process.kill))
             room.callback(process.kill)
             assert process.stdout
+            # (the program goes on while this process has other things to do)
+            with contextlib.suppress(OSError):
+                fcntl.fcntl(process.stdout, fcntl.F_SETPIPE_SZ, LARGE_PIPE)
             yield process.stdout
             # (where it is not read to its end, nobody waits for more of it)
             os.set_blocking(process.stdout.fileno(), False)

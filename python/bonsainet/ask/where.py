@@ -2,7 +2,6 @@
 from __future__ import annotations
 
 import dataclasses
-import hashlib
 import io
 import os
 import re
@@ -61,6 +60,9 @@ def is_file_of_one(path: str | Path) -> bool:
 
 def sum_of(path: str | Path) -> str:
     """The checksum of a file."""
+    # (who asks for no identity does not wait for it to load)
+    import hashlib
+
     return hashlib.sha256(Path(path).read_bytes()).hexdigest()
 
 

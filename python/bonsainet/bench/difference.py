@@ -18,7 +18,7 @@ from collections.abc import Callable, Iterable, Iterator
 from pathlib import Path
 
 from bonsainet.ask.program import ALL, ASK, BONSAI, TOP, named
-from bonsainet.bench.states import in_ascii, kind, machine
+from bonsainet.bench.states import in_ascii, kind, machine, with_compiled
 from bonsainet.cli.command_line import Refused, parser
 from bonsainet.nets.campus import campus_text
 from bonsainet.nets.fat_tree import fat_tree_text
@@ -172,7 +172,9 @@ def _run(top: Path, places: list[Path]) -> tuple[float, float, float, int]:
     with tempfile.NamedTemporaryFile("r") as told:
         begin = time.monotonic()
         asked = [sys.executable, "-c", RUN, str(top / "python"), told.name, *map(str, places)]
-        ran = subprocess.run(asked, stdin=subprocess.DEVNULL, capture_output=True, text=True, check=False)
+        ran = subprocess.run(
+            asked, stdin=subprocess.DEVNULL, capture_output=True, text=True, check=False, env=with_compiled()
+        )
         seconds = time.monotonic() - begin
         changed = re.search(r"^(\d+) prefix(?:es)? changes?, ", ran.stdout, re.M)
         if ran.returncode != DIFFERS or not changed:

@@ -17,7 +17,7 @@ from collections.abc import Callable
 from pathlib import Path
 
 from bonsainet.ask.program import TOP, Program
-from bonsainet.bench.states import machine
+from bonsainet.bench.states import machine, with_compiled
 from bonsainet.cli.command_line import Refused, parser, write_output
 from bonsainet.nets.campus import campus_text
 from bonsainet.nets.fat_tree import fat_tree_text
@@ -121,7 +121,7 @@ def run(clone: Path, folder: str) -> tuple[float, float, float]:
     """An import by a clone: processor seconds, wall seconds, MiB. Refused where it ends with another status than 0."""
     started = time.monotonic()
     asked = ["/usr/bin/python3", str(clone / "tools" / "bonsai-import"), folder]
-    with subprocess.Popen(asked, stdout=subprocess.DEVNULL, stderr=subprocess.DEVNULL) as process:
+    with subprocess.Popen(asked, stdout=subprocess.DEVNULL, stderr=subprocess.DEVNULL, env=with_compiled()) as process:
         _, status, used = os.wait4(process.pid, 0)
         process.returncode = os.waitstatus_to_exitcode(status)
     if process.returncode:

@@ -65,3 +65,8 @@ def machine() -> str:
     """The machine, in a few words."""
     found = re.search(r"^model name\s*: (.+)$", Path("/proc/cpuinfo").read_text("utf-8", "backslashreplace"), re.M)
     return in_ascii(f"{os.cpu_count()} processors, {found[1] if found else 'of no name'}")
+
+
+def with_compiled() -> dict[str, str]:
+    """The environment for a tool that is measured: Python keeps what it compiled, as it does for who runs a tool again."""
+    return {name: value for name, value in os.environ.items() if name != "PYTHONDONTWRITEBYTECODE"}

@@ -66,10 +66,11 @@ class Origin:
 
 
 class Network:
-    """The network of an accepted text."""
+    """The network of an accepted text, or some of its devices, with the protocol of the whole if that is known."""
 
-    def __init__(self, devices: list[Device]) -> None:
+    def __init__(self, devices: list[Device], protocol: str | None = None) -> None:
         self.devices = devices
+        self._protocol = protocol
 
     @functools.cached_property
     def by_name(self) -> dict[str, Device]:
@@ -79,6 +80,8 @@ class Network:
     @functools.cached_property
     def protocol(self) -> str | None:
         """`bgp`, `ospf`, or none where no device has a process."""
+        if self._protocol:
+            return self._protocol
         if any(device.bgp for device in self.devices):
             return "bgp"
         return "ospf" if any(device.ospf for device in self.devices) else None
@@ -103,11 +106,8 @@ class Network:
 
     @functools.cached_property
     def _end_at(self) -> dict[int, End]:
-        # (numbers are found much faster than addresses)
         return {
-            int(interface.own_address): End(device, interface)
-            for device in self.devices
-            for interface in device.up_interfaces
+            number: End(device, interface) for device in self.devices for number, interface in device.by_address.items()
         }
 
     @functools.cached_property
@@ -148,11 +148,10 @@ class Network:
         # (a session is met at the end whose line comes first, so that all stand in order)
         for device in self.devices:
             met.add(id(device))
-            own = {_subnet(interface): interface for interface in device.up_interfaces}
             for address, neighbor in device.bgp.neighbors.items() if device.bgp else ():
                 far = at.get(int(address))
                 if far and far.device.bgp and id(far.device) not in met:
-                    near = own.get(_subnet(far.interface))
+                    near = device.by_subnet.get(far.interface.subnet)
                     back = far.device.bgp.neighbors.get(near.own_address.ip) if near else None
                     if near and back and _agree(device, neighbor, far.device, back):
                         found.append(Link(End(device, near, neighbor), End(far.device, far.interface, back)))
@@ -188,12 +187,6 @@ def origins_of(device: Device) -> Iterator[Origin]:
             yield Origin(device.name, prefix, interface.name, None)
         elif is_in_area(device, interface):
             yield Origin(device.name, prefix, interface.name, interface.cost_in_area)
-
-
-def _subnet(interface: Interface) -> tuple[int, int]:
-    """The subnet of an interface, by its address and its length."""
-    subnet = interface.own_address.network
-    return int(subnet.network_address), subnet.prefixlen
 
 
 def _agree(device: Device, neighbor: Neighbor, far: Device, back: Neighbor) -> bool:

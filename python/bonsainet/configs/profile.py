@@ -6,6 +6,7 @@ those of docs/use/LINES.md.
 from __future__ import annotations
 
 import dataclasses
+import functools
 import re
 from collections.abc import Callable, Iterator
 from ipaddress import IPv4Address, IPv4Interface, IPv4Network
@@ -42,6 +43,12 @@ class Interface:
         """The address of an interface that has one, as each has that is up."""
         assert self.address
         return self.address
+
+    @property
+    def subnet(self) -> tuple[int, int]:
+        """The subnet of an interface that has an address, by its address and its mask as numbers."""
+        subnet = self.own_address.network
+        return int(subnet.network_address), int(subnet.netmask)
 
     @property
     def is_up(self) -> bool:
@@ -207,6 +214,17 @@ class Device:
     def up_interfaces(self) -> Iterator[Interface]:
         """The interfaces that are up."""
         return (interface for interface in self.interfaces if interface.is_up)
+
+    @functools.cached_property
+    def by_address(self) -> dict[int, Interface]:
+        """The interfaces that are up by their addresses as numbers, which are found much faster than addresses. Nothing
+        changes a device that is read."""
+        return {int(interface.own_address): interface for interface in self.up_interfaces}
+
+    @functools.cached_property
+    def by_subnet(self) -> dict[tuple[int, int], Interface]:
+        """The interfaces that are up by their subnets."""
+        return {interface.subnet: interface for interface in self.up_interfaces}
 
 
 def community(word: str) -> int:

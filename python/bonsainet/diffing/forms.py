@@ -20,6 +20,8 @@ from bonsainet.library.pairs import Pair
 # What an edge does to routes, step by step: what the far end does, whether communities are sent, what the near end does.
 Act = tuple[str, ...]
 NOTHING_PASSES: Act = ("lets nothing pass",)
+# (most groups of a class are those of others too)
+KEPT = 1 << 9
 # (a class has few other lines, and a line of these for each router)
 MEMBER = re.compile(rb"^! member (\S+)\n", re.MULTILINE)
 # (in 100.64.0.0/10, from which the program takes the addresses of links)
@@ -39,12 +41,20 @@ class Form:
     @functools.cached_property
     def groups(self) -> list[tuple[str, ...]]:
         """The groups, each by the names of its members."""
-        return [tuple(name.decode("ascii") for name in MEMBER.findall(router)) for router in _routers(self.text)]
+        return [_members(head) for head, _ in self._routers]
 
     @functools.cached_property
     def sorted_groups(self) -> frozenset[tuple[str, ...]]:
         """The groups in no order."""
-        return frozenset(tuple(sorted(members)) for members in self.groups)
+        return frozenset(_sorted_members(head) for head, _ in self._routers)
+
+    @property
+    def _routers(self) -> Iterator[tuple[bytes, bytes]]:
+        """The text of each router, up to the last line of a member and behind it."""
+        for router in self.text.split(b"\nend\n"):
+            if router:
+                end = router.find(b"\n", router.rfind(b"\n! member ") + 1) + 1
+                yield router[:end], router[end:]
 
     @functools.cached_property
     def _acts(self) -> dict[tuple[str, str], frozenset[Act]]:
@@ -58,7 +68,7 @@ class Form:
     @property
     def links(self) -> int:
         """How many links there are between groups. Each has two addresses of its own, and nothing else has such."""
-        return len(END_OF_LINK.findall(self.text)) // 2
+        return sum(_link_ends(rest) for _, rest in self._routers) // 2
 
     @functools.cached_property
     def group_of(self) -> dict[str, tuple[str, ...]]:
@@ -125,9 +135,21 @@ def _listed(device: Device, name: str) -> str:
     return " or ".join(found)
 
 
-def _routers(text: bytes) -> Iterator[bytes]:
-    """The text of each router."""
-    return (router for router in text.split(b"\nend\n") if router)
+@functools.lru_cache(KEPT)
+def _members(head: bytes) -> tuple[str, ...]:
+    """The names that the lines of members have."""
+    return tuple(name.decode("ascii") for name in MEMBER.findall(head))
+
+
+@functools.lru_cache(KEPT)
+def _sorted_members(head: bytes) -> tuple[str, ...]:
+    return tuple(sorted(_members(head)))
+
+
+@functools.lru_cache(KEPT)
+def _link_ends(lines: bytes) -> int:
+    """How many ends of links these lines have."""
+    return len(END_OF_LINK.findall(lines))
 
 
 def forms_of(both: Pair) -> tuple[dict[int, Form], dict[int, Form]]:

@@ -77,7 +77,7 @@ def reasons_of(both: Pair) -> Reasons:
     if both.old.text == both.new.text:
         return Reasons((), (), ())
     pairs = _pairs(both.old, both.new)
-    plain, policies = tuple(_plain(*both.parsed, both.shared)), tuple(_policies(both, pairs))
+    plain, policies = tuple(_plain(*both.around, both.shared)), tuple(_policies(both, pairs))
     forms = forms_of(both)
     differing = {pair: names for pair, names in pairs.items() if forms[0][pair[0]] != forms[1][pair[1]]}
     return Reasons(plain, policies, tuple(_forms(forms, differing)))
@@ -281,12 +281,12 @@ Pairs = Mapping[tuple[int, int], tuple[str, ...]]
 
 def _policies(both: Pair, pairs: Pairs) -> Iterator[PolicyEdit]:
     """The edits of policies, each with what it changes."""
-    found = list(edits(*both.parsed))
+    found = list(edits(*both.around))
     if not found:
         return
     old, new = both.old, both.new
     edited = {edit.router for edit in found}
-    sessions = [sessions_of(network, edited) for network in both.parsed]
+    sessions = [sessions_of(network, edited) for network in both.around]
     firsts = {prefixes[0]: prefixes for prefixes in pairs.values()}
     # (an originator takes no route of its own prefix)
     own = {

@@ -12,10 +12,12 @@ from collections.abc import Callable, Iterator
 from pathlib import Path
 from typing import TYPE_CHECKING
 
+from bonsainet.ask.program import ALL
+from bonsainet.ask.shares import side_by_side
 from bonsainet.cli.command_line import Refused, printable, read_input
 from bonsainet.cli.words import counted
 from bonsainet.library import BonsaiError, ImportRefused, Network
-from bonsainet.library.calls import BONSAI, program
+from bonsainet.library.calls import ASK, BONSAI, program
 from bonsainet.library.networks import judge
 
 if TYPE_CHECKING:
@@ -123,8 +125,8 @@ def networks_at(
     sides: tuple[Place, Place], decisions: tuple[Place | None, Place | None], own_as: bool
 ) -> tuple[Network, Network]:
     """Both networks. Refused where one of them is not accepted, or is not there."""
-    # (the program is found once, and says once if it is not proved)
-    program(BONSAI)
+    # (each program is found once, and says once if it is not proved)
+    list(side_by_side(program, (BONSAI, ASK, ALL)))
     found = _networks(sides, [functools.partial(_network, side, each, own_as) for side, each in zip(sides, decisions)])
     judge(found)
     return found

@@ -102,5 +102,5 @@ def compared(both: Pair) -> tuple[Difference, Reasons]:
     if both.old.text == both.new.text:
         return difference(both), reasons_of(both)
     with meanwhile(lambda: both.states, lambda: both.canons):
-        assert all(network.links is not None for network in both.parsed)
+        assert all(network.links is not None for network in both.around)
     return difference(both), reasons_of(both)

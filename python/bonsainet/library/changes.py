@@ -115,7 +115,7 @@ def difference(both: Pair) -> Difference:
             partly.append(prefix)
         elif found:
             alike.setdefault(found, []).append(prefix)
-    old, new = ([device.name for device in network.devices] for network in both.parsed)
+    old, new = (list(routers.texts) for routers in both.routers)
     return Difference(
         tuple(dataclasses.replace(found, prefixes=tuple(prefixes)) for found, prefixes in alike.items()),
         _without(old, new),

@@ -7,9 +7,9 @@ from collections.abc import Iterator, Mapping, Sequence, Sized
 from typing import TypeVar
 
 from bonsainet.ask.program import ASK, Status
-from bonsainet.configs.network import Network as Parsed
 from bonsainet.library.errors import ProgramFailed
 from bonsainet.library.pairs import Pair
+from bonsainet.library.routers import NearInterfaces, Routers
 from bonsainet.library.routes import Near, Route, Routes, key_of, near_interfaces, routes_of
 from bonsainet.library.states import Held, State, behind
 from bonsainet.library.written import Written
@@ -23,11 +23,11 @@ UNKNOWN: frozenset[Held] = frozenset([NOTHING])
 class _Side:
     """A network of two: its interfaces, and its place of each router of both."""
 
-    def __init__(self, network: Parsed, every: Sequence[str]) -> None:
-        own = [device.name for device in network.devices]
-        lacking = [name for name in every if name not in network.by_name]
+    def __init__(self, routers: Routers, every: Sequence[str]) -> None:
+        own = list(routers.texts)
+        lacking = [name for name in every if name not in routers.texts]
         place = {name: at for at, name in enumerate([*own, *lacking])}
-        self.near: Near = near_interfaces(network)
+        self.near: Near = NearInterfaces(routers)
         self.names = own
         self.lacking = [f"{name} none".encode("ascii") for name in lacking]
         self.order = None if own == every else [place[name] for name in every]
@@ -45,9 +45,16 @@ class _Side:
 
     def _whole(self, found: Some) -> Some:
         """What has something for each router, as it must."""
-        if len(found) != len(self.names):
-            raise ProgramFailed(Status.DONE, f"{ASK} did not write a line for each router")
+        self._must_be_whole(len(found))
         return found
+
+    def count(self, written: bytes) -> None:
+        """Sees that what is written has a line for each router, where it is not read."""
+        self._must_be_whole(written.count(b"\n") + 1 if written else 0)
+
+    def _must_be_whole(self, lines: int) -> None:
+        if lines != len(self.names):
+            raise ProgramFailed(Status.DONE, f"{ASK} did not write a line for each router")
 
     def lines(self, written: bytes) -> Sequence[bytes]:
         """A line for each router of both networks, of those that this one lacks too."""
@@ -76,10 +83,10 @@ class Comparison:
     @classmethod
     def of(cls, both: Pair) -> Comparison:
         """The comparison of a pair."""
-        every = list(dict.fromkeys(device.name for network in both.parsed for device in network.devices))
-        before, after = (_Side(network, every) for network in both.parsed)
-        pairs = {pair for pair in {**before.near, **after.near} if before.near.get(pair) != after.near.get(pair)}
-        moved = {router for router, _ in pairs}
+        every = list(dict.fromkeys(name for routers in both.routers for name in routers.texts))
+        old, new = map(near_interfaces, both.around)
+        moved = {pair[0] for pair in {**old, **new} if old.get(pair) != new.get(pair)}
+        before, after = (_Side(routers, every) for routers in both.routers)
         return cls(tuple(every), (before, after), frozenset(at for at, name in enumerate(every) if name in moved))
 
     def differing(self, before: State, after: State) -> Iterator[tuple[str, Routes, Routes]]:
@@ -97,6 +104,8 @@ class Comparison:
         self, before: tuple[bytes, bytes], after: tuple[bytes, bytes]
     ) -> Iterator[tuple[str, Routes, Routes]]:
         if before == after and not self.moved and self.sides[0].order is self.sides[1].order is None:
+            for written in before:
+                self.sides[0].count(written)
             return
         labels, hops = ([side.lines(text) for side, text in zip(self.sides, texts)] for texts in zip(before, after))
         differing = {at for lines in (labels, hops) for at, (old, new) in enumerate(zip(*lines)) if old != new}

@@ -8,10 +8,9 @@ from bonsainet.ask.frames import Frame, frames_of
 from bonsainet.ask.program import ALL
 from bonsainet.ask.shares import side_by_side
 from bonsainet.configs.network import Network as Parsed
-from bonsainet.configs.profile import Device, device_of
-from bonsainet.configs.text import lines_of, router_texts, routers_of
 from bonsainet.library.calls import errors_of, program
 from bonsainet.library.networks import Network
+from bonsainet.library.routers import Routers
 from bonsainet.library.states import State, spans, states_of
 
 
@@ -23,17 +22,40 @@ class Pair:
     new: Network
 
     @functools.cached_property
+    def routers(self) -> tuple[Routers, Routers]:
+        """The routers of both. One whose lines are the same on both sides is read once, and is one device in both, whose
+        lines have the places that they have before."""
+        old = Routers(self.old)
+        return old, Routers(self.new, old)
+
+    @functools.cached_property
     def parsed(self) -> tuple[Parsed, Parsed]:
-        """What the lines of both say. A router whose lines are the same on both sides is read once, and is one device in both,
-        whose lines have the places that they have before."""
-        texts = (text for _, text in router_texts(self.old.text))
-        return self.old.parsed, Parsed(_devices(self.new, dict(zip(texts, self.old.parsed.devices))))
+        """What the lines of both say."""
+        old, new = (side.among(side.texts) for side in self.routers)
+        return old, new
 
     @functools.cached_property
     def shared(self) -> frozenset[str]:
         """The routers whose lines are the same on both sides."""
-        old, new = self.parsed
-        return frozenset(device.name for device in new.devices if old.by_name.get(device.name) is device)
+        old, new = self.routers
+        return frozenset(name for name, text in new.texts.items() if old.texts.get(name) == text)
+
+    @functools.cached_property
+    def around(self) -> tuple[Parsed, Parsed]:
+        """What both say of the routers that are not the same, and of those with an address in a subnet of theirs: each link
+        of a router that is not the same is between two of these, on both sides. Other links are the same."""
+        old, new = self.routers
+        others = {name: None for side in self.routers for name in side.texts if name not in self.shared}
+        subnets = {
+            interface.subnet
+            for side in self.routers
+            for name in others
+            if name in side.texts
+            for interface in side.device(name).interfaces
+            if interface.address
+        }
+        names = [*others, *old.in_subnets(subnets, self.shared)]
+        return old.among(names), new.among(names)
 
     @functools.cached_property
     def states(self) -> tuple[dict[int, State], dict[int, State]]:
@@ -53,20 +75,6 @@ class Pair:
         """Whether two classes have the same compressed network with canonical maps, so that they have the same labels."""
         before, after = self.canons[0][old], self.canons[1][new]
         return before.refusal is None and after.refusal is None and before.written == after.written
-
-
-def _devices(network: Network, known: dict[str, Device]) -> list[Device]:
-    """The devices of a network, those of known texts as they are known."""
-    if network.report:
-        routers = zip(network.report.folder.routers, router_texts(network.text), strict=True)
-        return [known.get(text) or device_of(router) for router, (_, text) in routers]
-    found: list[Device] = []
-    for number, text in router_texts(network.text):
-        if text in known:
-            found.append(known[text])
-        else:
-            found += map(device_of, routers_of(lines_of(text, network.name, number)))
-    return found
 
 
 def _canons(network: Network) -> dict[int, Frame]:

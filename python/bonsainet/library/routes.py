@@ -4,16 +4,23 @@ from __future__ import annotations
 import dataclasses
 import enum
 import functools
-from collections.abc import Collection, Iterable, Mapping
+from collections.abc import Collection, Iterable
+from typing import Protocol
 
 from bonsainet.ask.labels import BgpLabel, OspfLabel, read_solution
 from bonsainet.asking.reports import forwards_of
 from bonsainet.configs.network import Network
 
 NextHop = tuple[str, tuple[str, ...]]
-Near = Mapping[tuple[str, str], tuple[str, ...]]
 # (routers hold few labels and few sets of next hops)
 KEPT = 1 << 16
+
+
+class Near(Protocol):
+    """For a pair of routers the interfaces of the first over which it may forward to the second."""
+
+    def get(self, pair: tuple[str, str], otherwise: tuple[str, ...], /) -> tuple[str, ...]:
+        """The interfaces for a pair."""
 
 
 class Aspect(enum.Enum):

@@ -58,7 +58,7 @@ class State:
         """What each router holds in the solutions."""
         labels, forwards = self.labels.lines(), self.forwards.lines()
         found = {}
-        for lines in zip(zip(*labels), zip(*forwards)):
+        for lines in zip(zip(*labels), zip(*forwards), strict=True):
             name = lines[0][0].partition(b" ")[0].decode("ascii")
             found[name] = frozenset((behind(label), behind(hops)) for label, hops in zip(*lines))
         return found
@@ -105,8 +105,10 @@ def _states(labels: Mapping[int, _Read], forwards: Mapping[int, _Read]) -> dict[
     """The program lists the solutions of a class in one order for both tasks."""
     found = {number: State(written, forwards[number][0], tie) for number, (written, tie) in labels.items()}
     for state in found.values():
-        lengths = [*state.labels.lengths, *state.forwards.lengths]
-        if len(state.forwards.solutions) != state.solutions or len(set(lengths)) > 1:
+        if (
+            len(state.forwards.solutions) != state.solutions
+            or len({*state.labels.lengths, *state.forwards.lengths}) > 1
+        ):
             raise ProgramFailed(Status.DONE, f"{ASK} did not list the same solutions twice")
     return found
 

@@ -29,8 +29,8 @@ class Written:
 
     @property
     def lengths(self) -> list[int]:
-        """How many lines each solution has."""
-        return [found.count(b"\n") + 1 if isinstance(found, bytes) else len(found) for found in self.solutions]
+        """How many lines each of several solutions has. Those of one solution are counted where it is compared."""
+        return [len(found) for found in self.solutions if not isinstance(found, bytes)]
 
     @property
     def only(self) -> bytes | None:
