@@ -27,6 +27,7 @@ SORTS = {
     "no-agreement": "links whose ends say different things in lines that Bonsai passes over",
     "unused": "lists and maps that nothing uses",
     "not-reached": "entries that nothing reaches",
+    "multiplied": "route maps for which a command that compresses may not end",
     "own-number": "AS numbers given by --own-as",
     "suggested-link": "links that the folder suggests and the text has not",
 }

@@ -3,12 +3,14 @@ from __future__ import annotations
 
 import argparse
 import json
+import sys
 from collections.abc import Iterator, Mapping
 
 from bonsainet.ask.accepted import add_classes, add_text, chosen
 from bonsainet.cli.command_line import name_of, parser, printable, read_input
 from bonsainet.configs.compressed import asked
 from bonsainet.doubts.agreement import doubts_of_agreement
+from bonsainet.doubts.diagrams import doubts_of_diagrams
 from bonsainet.doubts.finding import SORTS, Doubt
 from bonsainet.doubts.links import doubts_of_links
 from bonsainet.doubts.numbers import doubts_of_numbers
@@ -24,11 +26,12 @@ PURPOSE = """Lists what a text says that Bonsai accepts and that is likely not m
 
 Lines that originate nothing, neighbours in no session, interfaces in the area without a neighbour, routers without links, links whose
 ends differ in timers, authentication, MTU or password, which Bonsai takes to agree, lists and maps that nothing uses, entries that
-nothing reaches, each with the reason. Ties: where at rest two routes of a router have one preference and one length, and communities
-or lone numbers decided. Real routers break these by age or identifier, and may rest elsewhere. bonsai-ask says which classes have none;
-of the others the routes are asked on the compressed networks of the first 16, by `run` and `check`. Paths that pass two routers of one AS
-number, where bonsai-import --own-as gave them numbers of their own. With --folder: links that the raw folder suggests, by two interfaces
-in one subnet, and the text has not. A doubt is no fault: the status is 0."""
+nothing reaches, each with the reason. Route maps whose matched lists multiply, so that a command that compresses may not end: these are
+named on standard error too, before ties are asked for. Ties: where at rest two routes of a router have one preference and one length, and
+communities or lone numbers decided. Real routers break these by age or identifier, and may rest elsewhere. bonsai-ask says which classes
+have none; of the others the routes are asked on the compressed networks of the first 16, by `run` and `check`. Paths that pass two routers
+of one AS number, where bonsai-import --own-as gave them numbers of their own. With --folder: links that the raw folder suggests, by two
+interfaces in one subnet, and the text has not. A doubt is no fault: the status is 0."""
 
 
 def words() -> argparse.ArgumentParser:
@@ -56,6 +59,11 @@ def work(arguments: argparse.Namespace) -> None:
     text = asked(named(BONSAI), read_input(arguments.file), name)
     folder = read_folder(arguments.folder, arguments.skip) if arguments.folder else None
     found = [*doubts_of_links(text.network), *doubts_of_agreement(text.network), *doubts_of_policies(text.network)]
+    multiplied = list(doubts_of_diagrams(text.network))
+    found += multiplied
+    if not arguments.no_ties:
+        # (who waits for the programs reads now why)
+        sys.stderr.writelines(f"bonsai-doubts: {_told([one])}\n" for one in multiplied)
     names = [BONSAI]
     if not arguments.no_ties:
         numbers = chosen(text.classes, arguments.numbers, text.name)
