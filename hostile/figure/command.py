@@ -113,15 +113,15 @@ def _again(bonsai: Path, ask: Path, limit: int) -> int:
 
 
 def _frr(bonsai: Path, only: list[str] | None, most: int, anew: bool) -> int:
-    """Puts what FRR takes into the kept rows that have none, or into all. Status 1 where no lab can be, or there was no memory
-    for one: the others are there then."""
+    """Puts what FRR takes into the kept rows that have none, or into all. Status 1 where no lab can be. Where there is no memory
+    for a large one, that is said, and the row can be measured later."""
     try:
         refuse_unless_able()
     except Refused as why:
         print(f"asked: {why}", file=sys.stderr)
         return 1
     told, rows = KEPT.read_text("ascii").partition("\n")[0].removeprefix("# "), read(KEPT)
-    load, status = os.getloadavg()[0], 0
+    load = os.getloadavg()[0]
     for family in FAMILIES:
         if only and family.name not in only:
             continue
@@ -136,10 +136,9 @@ def _frr(bonsai: Path, only: list[str] | None, most: int, anew: bool) -> int:
                     print(f"asked: {row}", file=sys.stderr, flush=True)
                     keep(rows, _with_frr(told, load))
             except Refused as why:
-                print(f"asked: {family.name} {row.size}: {why}", file=sys.stderr, flush=True)
-                status = 1
+                print(f"asked: left out: {family.name} {row.size}: {why}", file=sys.stderr, flush=True)
             before = row
-    return status
+    return 0
 
 
 def _with_frr(told: str, load: float) -> str:

@@ -12,7 +12,7 @@ from pathlib import Path
 from types import ModuleType
 
 from bonsainet.ask.program import TOP
-from bonsainet.bench import paper, plot, profile, turns
+from bonsainet.bench import paper, plot, profile, questions, turns
 from bonsainet.bench.states import add_named, names_of, program_at
 from bonsainet.cli.command_line import Refused, parser
 
@@ -49,8 +49,9 @@ def main(argv: list[str] | None = None) -> None:
 
 def work(arguments: argparse.Namespace) -> None:
     """Measures, keeps and writes. What a later step needs is looked for before the first."""
-    if missing := packages():
+    if missing := packages(bool(arguments.ask)):
         raise Refused(f"programs or modules are not there: install the packages {', '.join(missing)}")
+    questions.programs_of(program_at(arguments.programs[1]))
     for tool, asked in steps(arguments):
         started = time.monotonic()
         tool.work(tool.words().parse_args(asked))
@@ -71,12 +72,13 @@ def figure(bonsai: Path, ask: Path) -> None:
             raise Refused(f"bench/asked {' '.join(words)} failed")
 
 
-def packages() -> list[str]:
-    """The packages of what is not there, of all that the steps need."""
+def packages(asks: bool) -> list[str]:
+    """The packages of what is not there, of all that the steps need, `bench/asked` among them if it is to run."""
     needed = {
         "linux-perf": shutil.which("perf"),
         "time": os.access(paper.TIME, os.X_OK),
         "python3-matplotlib": importlib.util.find_spec("matplotlib"),
+        "z3": not asks or shutil.which("z3"),
     }
     return [package for package, found in needed.items() if not found]
 

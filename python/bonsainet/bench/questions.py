@@ -138,10 +138,12 @@ def programs_of(program: Path) -> dict[str, Path]:
 
 
 def beside(program: Path, crate: str) -> Path | None:
-    """The program of a crate beside that of `bonsai`: in the folder of its own crate, or in the same folder."""
+    """The program of a crate beside that of `bonsai`: in the folder of its own crate, or in the same folder, also by the name
+    that it has where it is installed."""
     if crate == CRATES[0]:
         return program
-    places = (program.parent.parent.parent / crate / "out" / crate, program.with_name(crate))
+    names = (crate, crate.replace("_", "-"))
+    places = (program.parent.parent.parent / crate / "out" / crate, *map(program.with_name, names))
     return next((program_at(place) for place in places if place.is_file()), None)
 
 

@@ -59,6 +59,8 @@ def test_a_program_that_is_not_beside_is_named(programs, tmp_path, capsys) -> No
     (tmp_path / "bonsai_ask").symlink_to(programs["bonsai_ask"])
     assert sorted(questions.programs_of(tmp_path / "bonsai")) == ["bonsai", "bonsai_ask"]
     assert "bonsai_all is not there" in capsys.readouterr().err
+    (tmp_path / "bonsai-all").symlink_to(programs["bonsai_all"])
+    assert sorted(questions.programs_of(tmp_path / "bonsai")) == ["bonsai", "bonsai_all", "bonsai_ask"]
 
 
 def test_a_run_without_an_answer_is_refused(programs, tmp_path) -> None:

@@ -290,6 +290,12 @@ def test_what_a_later_step_needs_is_looked_for_first(tmp_path, monkeypatch) -> N
     monkeypatch.setattr("bonsainet.bench.paper.TIME", str(tmp_path / "time"))
     with pytest.raises(Refused, match="packages linux-perf, time, python3-matplotlib"):
         everything.work(everything.words().parse_args([str(tmp_path), str(tmp_path)]))
+    assert "z3" in everything.packages(True) and "z3" not in everything.packages(False)
+    monkeypatch.setattr(everything, "packages", lambda _asks: [])
+    (tmp_path / "bonsai").write_text("")
+    (tmp_path / "bonsai").chmod(0o755)
+    with pytest.raises(Refused, match="bonsai_ask and bonsai_all are not there beside"):
+        everything.work(everything.words().parse_args([str(tmp_path / "bonsai"), str(tmp_path / "bonsai")]))
 
 
 def test_instructions_are_counted_alone(programs) -> None:
