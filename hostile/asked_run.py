@@ -20,7 +20,7 @@ from pathlib import Path
 
 from bonsainet.ask.program import TOP, Answer
 from bonsainet.ask.where import named_by
-from hostile import asked_shut, slices
+from hostile import asked_files, asked_shut, slices
 from hostile.asking import Asker
 from hostile.judge import answers, asked, asked_questions, asked_words, questions
 from hostile.judge.problem import Network
@@ -83,10 +83,11 @@ class Found:
 
 
 def text_of(chance: random.Random, most: int = MOST) -> bytes:
-    """A network of either protocol, of so many routers or of a known gadget; most are of BGP, and many of these dispute."""
+    """A network of either protocol, of so many routers or of a known gadget; most are of BGP, and many of these dispute. In some
+    nobody prefers anything."""
     how = chance.random()
     if how < 0.5:
-        return disputes.text(chance, most).encode()
+        return (disputes.even if how < 0.12 else disputes.text)(chance, most).encode()
     if how < 0.7:
         return networks.text(chance, most).encode()
     if how < 0.85:
@@ -173,6 +174,7 @@ def over_text(program: Asker, text: bytes, start: int, found: Found, how: How) -
     calls = how.calls or int(chance.random() < SOME)
     for _ in range(calls if not isinstance(net, answers.Expected) else 1):
         _ask(program, text, start, net, made, found, how)
+    _ask_files(program, text, start, net, found, how)
     if isinstance(net, answers.Expected) or (loss := asked_shut.loss_of(chance, text, net)) is None:
         return
     try:
@@ -230,6 +232,19 @@ def _questions_of(file: bytes) -> list[list[str]]:
     """The words of each question of a file."""
     lines = (split(line) for line in lines_of(file) if not line.startswith(b"!"))
     return [line for line in lines if line]
+
+
+def _ask_files(
+    program: Asker, text: bytes, start: int, net: Network | answers.Expected, found: Found, how: How
+) -> None:
+    """A call whose files are not there or too long, over some texts."""
+    chance = random.Random(f"files {start}")
+    if chance.random() >= asked_files.SOME:
+        return
+    call = asked_files.call_of(chance, text, net)
+    found.commands["of a file that is not read"] += 1
+    if why := asked_files.fault(program, call):
+        found.differences.append(_kept(how.keep, text, start, list(call.words), *why))
 
 
 def _ask_lost(

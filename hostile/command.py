@@ -55,7 +55,11 @@ def words() -> argparse.ArgumentParser:
         "--all",
         action="store_true",
         help="share the seconds with hostile/ask, hostile/frames and hostile/solve, and where FRR can be started run"
-        " hostile/events and hostile/losses once behind them; the other options but --jobs and --seed say nothing then",
+        " hostile/events and hostile/losses once behind them, below ten minutes over two networks; the other options but --jobs,"
+        " --seed, --at-least and --corpus say nothing then",
+    )
+    parser.add_argument(
+        "--corpus", type=Path, metavar="FOLDER", help="with --all: ask hostile/corpus too about what FOLDER has"
     )
     parser.add_argument("--text", type=Path, help="ask over this text alone, with --seed")
     parser.add_argument(
@@ -74,7 +78,9 @@ def main(arguments: list[str] | None = None) -> int:
         parser.exit(1, f"hostile/run: refused: {why}\n")
     seed = seed_of(given)
     if given.all:
-        return everything.run(given.seconds, given.jobs, seed)
+        return everything.run(
+            everything.Wanted(given.seconds, given.jobs, seed, given.at_least, given.corpus and given.corpus.resolve())
+        )
     if given.only is not None:
         return _told(running.differences(Asker(), running.text_of(given.only), given.only, Counts()))
     if given.text:

@@ -8,7 +8,12 @@ from hostile.judge.problem import Network
 from hostile.judge.words import dotted
 
 COMMUNITIES = ["1:1", "2:2", "9:9", "65538", "7:0"]
+WELL_KNOWN = "no-export no-advertise 0 0:0 65535:0 65535:65281 4294967295 65534:65535 65536:1".split()
+OF_CLASSES = "0 01 0-1 1-0 2-1 1- 1000000000 1-1000000000 10.0.0 10.0.0.0/33 10.0.0.1/24".split()
+OF_HOPS = "01 1000000000 999999999 -1 1:1".split()
 TASKS = ["count", "solutions", "forwards"]
+UNKNOWN = 0.03
+"""How many of the lists of routers have a name that no router has, where words may be wrong."""
 
 
 class Maker:
@@ -17,9 +22,11 @@ class Maker:
     def __init__(self, chance: random.Random, net: Network) -> None:
         self.chance, self.net = chance, net
         self.names = [router.name for router in net.routers]
+        self.unknown = 0.0
 
     def words(self, may_be_wrong: bool = True) -> list[str]:
         """The words of one call."""
+        self.unknown = UNKNOWN if may_be_wrong else 0.0
         made = [self._classes()]
         if self.chance.random() < 0.35:
             made += ["without", self._down()]
@@ -42,6 +49,8 @@ class Maker:
         if how < 0.7:
             return f"{self.chance.randint(1, one)}-{one if self.chance.random() < 0.9 else count + 1}"
         base, length = self.chance.choice(self.net.classes[one - 1].prefixes)
+        if how < 0.73 and self.unknown:
+            return f"{dotted(base)}/{min(length + 1, 32)}"
         if how < 0.85:
             return f"{dotted(base + (self.chance.randrange(1 << (32 - length)) if length < 32 else 0))}/{length}"
         return dotted(base)
@@ -49,7 +58,8 @@ class Maker:
     def _some(self) -> str:
         if not self.names or self.chance.random() < 0.35:
             return "*"
-        return ",".join(self.chance.sample(self.names, self.chance.randint(1, min(3, len(self.names)))))
+        names = self.chance.sample(self.names, min(self.chance.choice([1, 1, 1, 2, 3]), len(self.names)))
+        return ",".join([*names, "r99"] if self.chance.random() < self.unknown else names)
 
     def _down(self) -> str:
         items = []
@@ -92,6 +102,8 @@ class Maker:
     def _spoilt(self, made: list[str]) -> list[str]:
         at = self.chance.randrange(len(made))
         how = self.chance.random()
+        if self.chance.random() < 0.4:
+            return made[:at] + [self._misread(made[at - 1] if at else "", made[at])] + made[at + 1 :]
         if how < 0.2:
             return made[:at] + made[at + 1 :]
         if how < 0.3:
@@ -102,3 +114,11 @@ class Maker:
         if how < 0.7:
             return [*made, self.chance.choice(["r1", "*", "count"])]
         return made[:at] + [self.chance.choice(["r99", "", "*", "1-0", "no-export", "links"])] + made[at + 1 :]
+
+    def _misread(self, before: str, word: str) -> str:
+        """A word for the place behind another one, which is of no form there, or is only just of one."""
+        name = self.chance.choice(self.names or ["a"])
+        down = ["{0}:{0}", "{0},{0}", "{0}:", ":{0}", "{0}:r99", "r99", "{1},r99:{0}"]
+        elsewhere = ["{1},{0}", "{1},", ",{1}", "{0},r99", "{0}:{0}", "r99"]
+        words = {"": OF_CLASSES, "without": down, "hops": OF_HOPS, "carries": WELL_KNOWN, "lacks": WELL_KNOWN}
+        return self.chance.choice(words.get(before, elsewhere)).format(name, word)

@@ -28,6 +28,12 @@ def text(chance: random.Random, most: int = MOST) -> str:
     return "".join(f"{line}\n" for line in lines)
 
 
+def even(chance: random.Random, most: int = MOST) -> str:
+    """A random shape in which nobody prefers anything, so that ways of the same length are equally good."""
+    one = shape(chance, most)
+    return "".join(f"{line}\n" for place in range(one.count) for line in _plain(one, place, [], False))
+
+
 def gadget(chance: random.Random, name: str, pairs: list[tuple[int, int]]) -> str:
     """A gadget around the origin r0: each other router prefers its next neighbour to the origin.
 

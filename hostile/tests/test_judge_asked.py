@@ -6,7 +6,7 @@ import random
 import pytest
 
 from bonsainet.ask.program import TOP, Answer
-from hostile import asked_run, asked_shut
+from hostile import asked_files, asked_run, asked_shut
 from hostile.asked_run import text_of
 from hostile.judge import answers, asked, asked_questions, asked_words, questions, rests
 from hostile.judge.rests import Down
@@ -346,3 +346,53 @@ def test_where_no_router_has_two_such_offers_nothing_is_tied():
     assert not answer(net, ["1", "route", "*"], 0, "class 1 yes tied r1 path\n")
     lines = "class 1 yes\nclass 1 failing 0 of 3 tied 1\n"
     assert not answer(net, ["1", "failing", "links", "route", "*"], 0, lines)
+
+
+class Ending:
+    """A program that ends each call alike."""
+
+    def __init__(self, status, line):
+        self.answer = Answer(status, b"", line)
+
+    def ask(self, *words, texts):
+        """The answer."""
+        return self.answer
+
+
+def test_files_that_are_absent_or_too_long_have_one_end():
+    """A text that is refused is refused before a second file is read."""
+    net, refused = network("disagree"), answers.read(b"hostname\n")
+    calls = [asked_files.call_of(random.Random(seed), b"", net) for seed in range(40)]
+    told = {(call.status, call.reason) for call in calls}
+    absent = (3, f"read fault: {asked_files.ABSENT}")
+    assert told == {absent, (1, "refused: FileTooLong"), (1, "refused: questions FileTooLong")}
+    of_second = [asked_files.call_of(random.Random(seed), b"hostname\n", refused) for seed in range(40)]
+    assert all(call.reason == refused.reason for call in of_second if call.texts.get("F") == b"hostname\n")
+    call = next(call for call in calls if call.status == 3)
+    assert asked_files.fault(Ending(3, f"{absent[1]}\n".encode()), call) is None
+    assert asked_files.fault(Ending(5, b"out of memory\n"), call) == (
+        f"status 3, {absent[1]}",
+        Answer(5, b"", b"out of memory\n"),
+    )
+
+
+def test_nobody_is_lone_where_nobody_prefers_anything():
+    for seed in range(20):
+        net = answers.read(disputes.even(random.Random(seed)).encode())
+        assert net.classes and not any(
+            questions.solutions(net, number, NOTHING)[0].lone for number in range(len(net.classes))
+        )
+
+
+def test_words_that_may_not_be_wrong_name_routers_that_are_there():
+    """Of others some name one that is not there, are of no form, name a class that is not there, or a pair without a link."""
+    net, ends = network("two pairs"), set()
+    for seed in range(600):
+        assert "r99" not in ",".join(maker.Maker(random.Random(seed), net).words(False))
+        try:
+            asked_words.call_of(net, maker.Maker(random.Random(seed), net).words())
+        except asked_words.NoForm:
+            ends.add("no form")
+        except asked_words.Unanswered as why:
+            ends.add(str(why).split()[0])
+    assert ends >= {"no form", "UnknownRouter", "NoClass", "NoLink"}
