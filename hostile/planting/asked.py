@@ -24,6 +24,8 @@ BEGIN = "<!-- ask faults: this table is written by hostile/plant --asked --recor
 END = "<!-- ask faults: end -->"
 TEXTS = 20
 CALLS = 4
+ROUTERS = 5
+"""Texts of few routers show these faults as well, and many more of them are judged in the same time."""
 
 
 @dataclasses.dataclass(frozen=True)
@@ -37,7 +39,7 @@ class Seen:
 
 def asked_over(program: Path, seed: int, seconds: float, keep: Path) -> tuple[int, list[str]]:
     """Asks `hostile/ask` over some texts: how many, and the words of each command that differs."""
-    found = run(How(str(program), seed, "search", CALLS, keep), seconds, 1, TEXTS, None)
+    found = run(How(str(program), seed, "search", CALLS, keep, ROUTERS), seconds, 1, TEXTS, None)
     told = (re.match(r"words (.*)\n", (keep / f"{name}.txt").read_text("utf-8")) for name in found.differences)
     return found.texts, [one[1] for one in told if one]
 

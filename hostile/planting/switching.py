@@ -13,9 +13,8 @@ from collections.abc import Iterator, Sequence
 from pathlib import Path
 
 from bonsainet.ask.program import TOP
-from hostile.planting.ask_faults import SWITCH
 from hostile.planting.copies import Unfit, build, copied, launcher_of, planted
-from hostile.planting.fault import Fault
+from hostile.planting.fault import SWITCH, Fault
 
 LOW = "base_kit"
 LIMIT = resource.RLIMIT_MSGQUEUE

@@ -1,6 +1,7 @@
 """Faults can be planted where they say."""
 from __future__ import annotations
 
+import collections
 import shutil
 import subprocess
 import sys
@@ -21,7 +22,7 @@ from hostile.planting import (
     tool_faults,
     tools,
 )
-from hostile.planting.fault import Fault
+from hostile.planting.fault import SWITCH, Fault
 from bonsainet.ask.program import TOP
 
 ALL = [(TOP / "hostile" / "judge", fault) for fault in judge_faults.FAULTS] + [
@@ -132,16 +133,19 @@ def test_a_fault_of_the_tools_is_seen(tmp_path: Path) -> None:
 
 
 NEW_CRATES = (
-    "srp_without srp_questions solution_answers ask_words ask_names ask_classes ask_requests ask_answers ask_top all_classes "
-    "network_files"
+    "solution_search srp_without srp_questions solution_answers spare_links ask_words ask_names ask_classes ask_requests ask_answers "
+    "all_classes"
 ).split()
+SMALL_CRATES = {"ask_top": 10, "endings": 11, "network_files": 6}
 
 
-def test_there_are_ten_faults_of_the_search_and_one_of_each_other_crate() -> None:
-    crates = [fault.file.partition("/")[0] for fault in ask_faults.FAULTS]
-    assert crates.count("solution_search") >= 10 and set(NEW_CRATES) <= set(crates)
+def test_there_are_ten_faults_of_each_new_crate_or_as_many_as_a_small_one_has_places() -> None:
+    crates = collections.Counter(fault.file.partition("/")[0] for fault in ask_faults.FAULTS)
+    assert all(crates[name] >= 10 for name in NEW_CRATES)
+    assert all(crates[name] >= least for name, least in SMALL_CRATES.items())
+    assert set(crates) == {*NEW_CRATES, *SMALL_CRATES}
     assert len({fault.name for fault in ask_faults.FAULTS}) == len(ask_faults.FAULTS)
-    assert all(fault.wrong.count(ask_faults.SWITCH) == 1 for fault in ask_faults.FAULTS)
+    assert all(fault.wrong.count(SWITCH) == 1 for fault in ask_faults.FAULTS)
 
 
 @pytest.mark.parametrize("called", sorted(ask_faults.BY_PROGRAM))
