@@ -3,12 +3,11 @@ use Rattle.std.specs.Prelude.{◌≡◌, ℕ, Bool, List, [], ◌∷◌, ◌++�
 use Rattle.std.specs.Option.{option_map_or}
 use Rattle.std.specs.HashMap.{HashMap, get}
 use Rattle.std.specs.declared.alloc.Global.{Global}
-use Rattle.std.specs.declared.hash.FoldHasher.{FoldHasher}
-use Rattle.std.specs.declared.hash.BuildHasherDefault.{BuildHasherDefault}
 use Rattle.base_kit.specs.Pairs.{same_pair}
+use Rattle.number_hashing.specs.declared.hashing.NumberHashing.{NumberHashing}
 
 abbrev pub Index : Type 0 → Type 0
-Index T = HashMap (ℕ × ℕ) (Vec T Global) (BuildHasherDefault FoldHasher)
+Index T = HashMap (ℕ × ℕ) (Vec T Global) NumberHashing
 
 -- the items at a pair
 abbrev pub bucket : {T : Type 0} → Index T → ℕ × ℕ → List T

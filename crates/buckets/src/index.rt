@@ -4,11 +4,12 @@ ghost use Rattle.std.specs.Prelude.{◌≡◌, OnOk};
 ghost use Rattle.buckets.specs.Buckets.{bucket, PushesAt};
 
 use base_kit::NoMemory;
+use number_hashing::NumberHashing;
 use std::alloc::Global;
 use std::collections::HashMap;
 
 /// The items of each pair.
-pub type Index<T> = HashMap<(u32, u32), Vec<T>>;
+pub type Index<T> = HashMap<(u32, u32), Vec<T>, NumberHashing>;
 
 /// Puts the item last at that pair. Where memory runs out, the items of the pair may be lost.
 pub fn push_at<T>(

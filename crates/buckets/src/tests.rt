@@ -1,12 +1,13 @@
 //! Items of one pair keep their order.
 
 use crate::{Index, items_at, push_at};
+use number_hashing::NumberHashing;
 use std::collections::HashMap;
 use std::test::Fail;
 
 #[test]
 fn items_stand_in_the_order_in_which_they_came(rt: HostRuntime) -> Result<(), Fail> {
-    let mut index: Index<u32> = HashMap::new(rt.alloc());
+    let mut index: Index<u32> = HashMap::with_hasher(rt.alloc(), NumberHashing::plain());
     push_at(rt.alloc(), &mut index, (24, 1), 7)?;
     push_at(rt.alloc(), &mut index, (25, 1), 8)?;
     push_at(rt.alloc(), &mut index, (24, 1), 5)?;

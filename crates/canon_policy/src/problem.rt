@@ -11,11 +11,10 @@ ghost use Rattle.canon_policy.specs.MadeActs.{IsActFor, IsCanonicalActOr, AreCan
 
 use crate::canonical::canon;
 use crate::lists::CanonRefusal;
-use base_kit::{List, NoMemory, Text};
+use base_kit::{List, NoMemory};
 use dd_core::Store;
 use policy_dd::edge_fn;
-use route_maps::map_copy;
-use srp_core::{Act, Route, Srp};
+use srp_core::{Act, Route, Srp, names_copy};
 use std::alloc::{AllocError, Global};
 use thiserror::Error;
 
@@ -165,35 +164,12 @@ fn canonical_acts(alloc: Global, srp: &Srp, store: &mut Store) -> Result<List<Ac
     Ok(List::from_vec(made))
 }
 
-fn act_copy(alloc: Global, act: &Act) -> Result<Act, NoMemory>
-    ensures { IfOk result (λ copy. copy ≡ act.now) }
-{
-    match act {
-        Act::Import { out, sends, into } => Ok(Act::Import {
-            out: map_copy(alloc, out)?,
-            sends: *sends,
-            into: map_copy(alloc, into)?,
-        }),
-        Act::Cost(cost) => Ok(Act::Cost(*cost)),
-    }
-}
-
 fn acts_copy(alloc: Global, acts: &[Act]) -> Result<Vec<Act>, NoMemory>
     ensures { IfOk result (λ copies. copies.items ≡ acts.now) }
 {
     let mut copies = Vec::new(alloc);
     for act in acts {
-        copies.push(act_copy(alloc, act)?)?;
-    }
-    Ok(copies)
-}
-
-fn names_copy(alloc: Global, names: &[Text]) -> Result<List<Text>, NoMemory>
-    ensures { IfOk result (λ copies. copies ≡ names.now) }
-{
-    let mut copies = List::new(alloc);
-    for name in names {
-        copies.push(Text::copy_of(alloc, name.as_str())?)?;
+        copies.push(act.copy(alloc)?)?;
     }
     Ok(copies)
 }

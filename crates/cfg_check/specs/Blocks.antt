@@ -2,10 +2,9 @@
 use Rattle.std.specs.Prelude.{◌≡◌, ℕ, ◌-◌, ◌/◌, ◌^◌, Bool, ◌&&◌, ◌||◌, List, nat_eq, nat_le}
 use Rattle.std.specs.List.{list_any}
 use Rattle.std.specs.HashSet.{HashSet, contains}
-use Rattle.std.specs.declared.hash.FoldHasher.{FoldHasher}
-use Rattle.std.specs.declared.hash.BuildHasherDefault.{BuildHasherDefault}
 use Rattle.base_kit.specs.Sets.{has}
 use Rattle.base_kit.specs.Pairs.{same_pair}
+use Rattle.number_hashing.specs.declared.hashing.NumberHashing.{NumberHashing}
 use Rattle.cfg_ast.specs.meaning.Addresses.{Address}
 use Rattle.cfg_check.specs.declared.overlaps.Blocks.{Blocks}
 
@@ -26,7 +25,7 @@ abbrev pub is_under : Address → Address → Bool
 is_under a b = nat_le b.len a.len && nat_eq (block_of b.len a) (block_of b.len b)
 
 abbrev pub Pairs : Type 0
-Pairs = HashSet (ℕ × ℕ) (BuildHasherDefault FoldHasher)
+Pairs = HashSet (ℕ × ℕ) NumberHashing
 
 -- these are the lengths that the subnets have
 pub record HasLens (lens : List ℕ) (addresses : List Address) : Type 0 where

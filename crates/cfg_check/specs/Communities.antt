@@ -1,11 +1,10 @@
 -- How many communities stand on lines, and sets of those that were seen.
 use Rattle.std.specs.Prelude.{◌≡◌, ℕ, List, map, filter, length, nat_eq, nat_lt, nat_le, if◌then◌else◌}
 use Rattle.std.specs.HashSet.{HashSet, contains, hash_set_len}
-use Rattle.std.specs.declared.hash.FoldHasher.{FoldHasher}
-use Rattle.std.specs.declared.hash.BuildHasherDefault.{BuildHasherDefault}
 use Rattle.base_kit.specs.Sets.{IsAscending, has, with_number}
 use Rattle.cfg_ast.specs.declared.policy.Mention.{Mention}
 use Rattle.cfg_ast.specs.meaning.PolicyFaults.{communities_in, first_exceeds}
+use Rattle.number_hashing.specs.declared.hashing.NumberHashing.{NumberHashing}
 
 abbrev pub mentions_before : List Mention → ℕ → List Mention
 mentions_before ms line = filter (λ (m : Mention). nat_lt m.line line) ms
@@ -26,7 +25,7 @@ abbrev pub count_up_to : List Mention → ℕ → ℕ
 count_up_to ms line = length (communities_in (mentions_up_to ms line))
 
 abbrev pub Numbers : Type 0
-Numbers = HashSet ℕ (BuildHasherDefault FoldHasher)
+Numbers = HashSet ℕ NumberHashing
 
 -- the set has the numbers of this list
 pub record HasNumbers (seen : Numbers) (set : List ℕ) : Type 0 where

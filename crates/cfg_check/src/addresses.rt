@@ -10,6 +10,7 @@ use crate::gather::push_some;
 use crate::least::with_line_if;
 use base_kit::NoMemory;
 use cfg_ast::{Address, Interface, Router};
+use number_hashing::NumberHashing;
 use std::alloc::Global;
 use std::collections::HashSet;
 
@@ -36,10 +37,14 @@ fn up_addresses(alloc: Global, routers: &[Router]) -> Result<Vec<Address>, NoMem
     Ok(found)
 }
 
-fn repeated_address(alloc: Global, addresses: &[Address]) -> Result<Option<u32>, NoMemory>
+fn repeated_address(
+    alloc: Global,
+    hashing: NumberHashing,
+    addresses: &[Address],
+) -> Result<Option<u32>, NoMemory>
     ensures { IfOk result (λ line. line ≡ least_line (map address_line (repeats same_address addresses.now))) }
 {
-    let mut seen: HashSet<u32> = HashSet::new(alloc);
+    let mut seen: HashSet<u32, NumberHashing> = HashSet::with_hasher(alloc, hashing);
     let mut least = None;
     for address in addresses {
         let is_new = seen.insert(address.addr())?;
@@ -48,10 +53,15 @@ fn repeated_address(alloc: Global, addresses: &[Address]) -> Result<Option<u32>,
     Ok(least)
 }
 
-/// The least `ip address` line of an up interface whose address an earlier up interface has.
-pub(crate) fn shared_address(alloc: Global, routers: &[Router]) -> Result<Option<u32>, NoMemory>
+/// The least `ip address` line of an up interface whose address an earlier up interface has. Addresses
+/// are hashed as given.
+pub(crate) fn shared_address(
+    alloc: Global,
+    hashing: NumberHashing,
+    routers: &[Router],
+) -> Result<Option<u32>, NoMemory>
     ensures { IfOk result (λ line. line ≡ least_line (map address_line (repeats same_address (flat_map up_addresses_of routers.now)))) }
 {
     let addresses = up_addresses(alloc, routers)?;
-    repeated_address(alloc, addresses.as_slice())
+    repeated_address(alloc, hashing, addresses.as_slice())
 }

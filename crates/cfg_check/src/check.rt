@@ -11,6 +11,7 @@ use crate::area::area_faults;
 use crate::checked::Checked;
 use crate::communities::{all_mentions, communities, too_many_communities};
 use crate::deletions::delete_list_form;
+use crate::hashing::hashing_of_network;
 use crate::least::with_fault;
 use crate::limits::{too_many_neighbors, too_many_routers};
 use crate::names::shared_name;
@@ -45,7 +46,12 @@ fn least_fault(
         Kind::DeleteListForm,
         delete_list_form(alloc, routers)?,
     );
-    let least = with_fault(least, Kind::SharedAddress, shared_address(alloc, routers)?);
+    let hashing = hashing_of_network(routers);
+    let least = with_fault(
+        least,
+        Kind::SharedAddress,
+        shared_address(alloc, hashing, routers)?,
+    );
     let overlapping = overlapping_interfaces(alloc, routers)?;
     let least = with_fault(least, Kind::OverlappingInterfaces, overlapping);
     let in_area = area_faults(alloc, routers)?;
@@ -55,7 +61,11 @@ fn least_fault(
     let communities = too_many_communities(alloc, mentions)?;
     let least = with_fault(least, Kind::TooManyCommunities, communities);
     let least = with_fault(least, Kind::TooManyNeighbors, too_many_neighbors(routers));
-    let least = with_fault(least, Kind::TooManyLinks, too_many_links(alloc, routers)?);
+    let least = with_fault(
+        least,
+        Kind::TooManyLinks,
+        too_many_links(alloc, hashing, routers)?,
+    );
     let least = with_fault(least, Kind::PrependForm, prepend_form(routers));
     let least = with_fault(least, Kind::PrependIn, prepend_in(alloc, routers)?);
     Ok(least)

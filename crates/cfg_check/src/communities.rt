@@ -10,6 +10,7 @@ ghost use Rattle.cfg_check.specs.LeastLine.{least_line};
 
 use base_kit::{NoMemory, NumSet};
 use cfg_ast::{Change, CommunityLine, CommunityList, MapEntry, Mention, RouteMap, Router};
+use number_hashing::{NumberDigest, NumberHashing};
 use std::alloc::Global;
 use std::collections::HashSet;
 
@@ -102,11 +103,20 @@ fn add_if(set: &mut NumSet, is_new: bool, number: u32) -> Result<(), NoMemory>
     Ok(())
 }
 
+// The hash for a table of the communities.
+fn hashing_of(mentions: &[Mention]) -> NumberHashing {
+    let mut numbers = NumberDigest::for_count(mentions.len());
+    for mention in mentions {
+        numbers.add(&mention.community);
+    }
+    numbers.hashing()
+}
+
 /// The communities that are mentioned.
 pub(crate) fn communities(alloc: Global, mentions: &[Mention]) -> Result<NumSet, NoMemory>
     ensures { IfOk result (λ set. set ≡ communities_in mentions.now) }
 {
-    let mut seen: HashSet<u32> = HashSet::new(alloc);
+    let mut seen: HashSet<u32, NumberHashing> = HashSet::with_hasher(alloc, hashing_of(mentions));
     let mut set = NumSet::new(alloc);
     for mention in mentions {
         let is_new = seen.insert(mention.community)?;
@@ -134,7 +144,11 @@ fn last_line(mentions: &[Mention]) -> u32
 }
 
 // Puts in the community if it stands on a line up to this one.
-fn keep_up_to(seen: &mut HashSet<u32>, mention: Mention, line: u32) -> Result<(), NoMemory>
+fn keep_up_to(
+    seen: &mut HashSet<u32, NumberHashing>,
+    mention: Mention,
+    line: u32,
+) -> Result<(), NoMemory>
     ensures { OnOk result (KeepsUpTo line mention seen.old seen.new) }
 {
     if mention.line <= line {
@@ -147,7 +161,7 @@ fn keep_up_to(seen: &mut HashSet<u32>, mention: Mention, line: u32) -> Result<()
 fn exceeds(alloc: Global, mentions: &[Mention], line: u32) -> Result<bool, NoMemory>
     ensures { IfOk result (λ more. more ≡ nat_lt 1024 (count_up_to mentions.now line)) }
 {
-    let mut seen: HashSet<u32> = HashSet::new(alloc);
+    let mut seen: HashSet<u32, NumberHashing> = HashSet::with_hasher(alloc, hashing_of(mentions));
     for mention in mentions {
         keep_up_to(&mut seen, *mention, line)?;
         if seen.len() > MOST_COMMUNITIES {

@@ -16,6 +16,7 @@ mod checked;
 mod communities;
 mod deletions;
 mod gather;
+mod hashing;
 pub mod laws;
 mod least;
 mod limits;

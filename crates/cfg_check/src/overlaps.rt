@@ -8,9 +8,11 @@ ghost use Rattle.cfg_check.specs.LeastLine.{least_line};
 ghost use Rattle.cfg_check.specs.Blocks.{block_of, is_kept_at, lies_in_one, meets, HasLens, AddsBlock, AddsAround, AddsSubnet};
 
 use crate::addresses::push_up_addresses;
+use crate::hashing::hashing_of;
 use crate::least::{lesser_line, with_line_if};
 use base_kit::{NoMemory, NumSet};
 use cfg_ast::{Address, Router};
+use number_hashing::NumberHashing;
 use std::alloc::Global;
 use std::collections::HashSet;
 
@@ -22,9 +24,9 @@ const FEW: usize = 64;
 #[derive(Drop)]
 pub(crate) struct Blocks {
     /// The subnets themselves.
-    pub(crate) subnets: HashSet<(u32, u32)>,
+    pub(crate) subnets: HashSet<(u32, u32), NumberHashing>,
     /// All blocks in which one of them lies, of the lengths that subnets have.
-    pub(crate) around: HashSet<(u32, u32)>,
+    pub(crate) around: HashSet<(u32, u32), NumberHashing>,
 }
 
 // The lengths that the subnets have.
@@ -47,7 +49,7 @@ fn block(address: Address, len: u32) -> u32
 }
 
 // Whether one of the subnets is the block of that length in which the subnet lies.
-fn is_kept_at(subnets: &HashSet<(u32, u32)>, address: Address, len: u32) -> bool
+fn is_kept_at(subnets: &HashSet<(u32, u32), NumberHashing>, address: Address, len: u32) -> bool
     ensures { result ≡ is_kept_at subnets.now address len }
 {
     len <= u32::from(address.len()) && subnets.contains(&(len, block(address, len)))
@@ -70,7 +72,11 @@ fn meets(blocks: &Blocks, lens: &[u32], address: Address) -> bool
 }
 
 // Puts in the block of that length in which the subnet lies, if there is one.
-fn keep_block(around: &mut HashSet<(u32, u32)>, address: Address, len: u32) -> Result<(), NoMemory>
+fn keep_block(
+    around: &mut HashSet<(u32, u32), NumberHashing>,
+    address: Address,
+    len: u32,
+) -> Result<(), NoMemory>
     ensures { OnOk result (AddsBlock around.old around.new len address) }
 {
     if len > u32::from(address.len()) {
@@ -82,7 +88,7 @@ fn keep_block(around: &mut HashSet<(u32, u32)>, address: Address, len: u32) -> R
 
 // Puts in the blocks of these lengths in which the subnet lies.
 fn keep_around(
-    around: &mut HashSet<(u32, u32)>,
+    around: &mut HashSet<(u32, u32), NumberHashing>,
     lens: &[u32],
     address: Address,
 ) -> Result<(), NoMemory>
@@ -94,7 +100,10 @@ fn keep_around(
     Ok(())
 }
 
-fn keep_subnet(subnets: &mut HashSet<(u32, u32)>, address: Address) -> Result<(), NoMemory>
+fn keep_subnet(
+    subnets: &mut HashSet<(u32, u32), NumberHashing>,
+    address: Address,
+) -> Result<(), NoMemory>
     ensures { OnOk result (AddsSubnet subnets.old subnets.new address) }
 {
     let len = u32::from(address.len());
@@ -132,9 +141,10 @@ fn overlapping(alloc: Global, addresses: &[Address], lens: &[u32]) -> Result<Opt
     requires { HasLens lens.now addresses.now }
     ensures { IfOk result (λ line. line ≡ least_line (map address_line (repeats overlap addresses.now))) }
 {
+    let hashing = hashing_of(addresses);
     let mut seen = Blocks {
-        subnets: HashSet::new(alloc),
-        around: HashSet::new(alloc),
+        subnets: HashSet::with_hasher(alloc, hashing),
+        around: HashSet::with_hasher(alloc, hashing),
     };
     let mut least = None;
     for address in addresses {

@@ -12,6 +12,7 @@ use crate::gather::push_some;
 use base_kit::NoMemory;
 use buckets::{Index, items_at, push_at};
 use cfg_ast::{Address, Interface, Router};
+use number_hashing::NumberHashing;
 use std::alloc::Global;
 use std::collections::HashMap;
 
@@ -80,11 +81,16 @@ fn sum_of_pairs(seen: &Index<Address>, addresses: &[Address], sum: u64) -> Resul
     Ok(sum)
 }
 
-/// The `ip address` line at which the number of OSPF adjacent pairs first exceeds the limit.
-pub(crate) fn too_many_links(alloc: Global, routers: &[Router]) -> Result<Option<u32>, NoMemory>
+/// The `ip address` line at which the number of OSPF adjacent pairs first exceeds the limit. Subnets are
+/// hashed as given.
+pub(crate) fn too_many_links(
+    alloc: Global,
+    hashing: NumberHashing,
+    routers: &[Router],
+) -> Result<Option<u32>, NoMemory>
     ensures { IfOk result (λ line. line ≡ least_line (exceeding 1048576 0 (added_after [] routers.now))) }
 {
-    let mut seen: Index<Address> = HashMap::new(alloc);
+    let mut seen: Index<Address> = HashMap::with_hasher(alloc, hashing);
     let mut sum = 0;
     for router in routers {
         let addresses = active_addresses(alloc, router)?;

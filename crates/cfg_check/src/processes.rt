@@ -11,6 +11,7 @@ use crate::gather::push_some;
 use crate::least::{lesser_line, with_line_if};
 use base_kit::{NoMemory, Protocol};
 use cfg_ast::{AreaLine, BgpProcess, Router};
+use number_hashing::{NumberDigest, NumberHashing};
 use std::alloc::Global;
 use std::collections::HashSet;
 
@@ -41,10 +42,19 @@ fn numbers_of(alloc: Global, routers: &[Router]) -> Result<Vec<Numbered>, NoMemo
     Ok(all)
 }
 
+// The hash for a table of the numbers.
+fn hashing_of(all: &[Numbered]) -> NumberHashing {
+    let mut numbers = NumberDigest::for_count(all.len());
+    for process in all {
+        numbers.add(&process.number);
+    }
+    numbers.hashing()
+}
+
 fn repeated_number(alloc: Global, all: &[Numbered]) -> Result<Option<u32>, NoMemory>
     ensures { IfOk result (λ line. line ≡ least_line (map line_of_numbered (repeats same_numbered all.now))) }
 {
-    let mut seen: HashSet<u32> = HashSet::new(alloc);
+    let mut seen: HashSet<u32, NumberHashing> = HashSet::with_hasher(alloc, hashing_of(all));
     let mut least = None;
     for process in all {
         let is_new = seen.insert(process.number)?;

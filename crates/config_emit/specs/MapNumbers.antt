@@ -5,8 +5,7 @@ use Rattle.std.specs.Global.{Vec}
 use Rattle.std.specs.HashMap.{HashMap, get}
 use Rattle.std.specs.List.{list_any, position_or_len}
 use Rattle.std.specs.Option.{option_and_then}
-use Rattle.std.specs.declared.hash.FoldHasher.{FoldHasher}
-use Rattle.std.specs.declared.hash.BuildHasherDefault.{BuildHasherDefault}
+use Rattle.number_hashing.specs.declared.hashing.NumberHashing.{NumberHashing}
 use Rattle.route_maps.specs.Same.{same_map}
 use Rattle.route_maps.specs.declared.plain.Plain.{Plain}
 use Rattle.srp_core.specs.declared.route.Act.{Act}
@@ -17,7 +16,7 @@ use Rattle.config_emit.specs.declared.act_maps.ActMaps.{ActMaps}
 use Rattle.config_emit.specs.declared.act_maps.Policies.{Policies}
 
 abbrev pub NumbersByKey : Type 0
-NumbersByKey = HashMap (Vec EntryKey) ℕ (BuildHasherDefault FoldHasher)
+NumbersByKey = HashMap (Vec EntryKey) ℕ NumberHashing
 
 -- the place of the first item that passes, counted from n
 abbrev pub place_from : {X : Type 0} → (X → Bool) → ℕ → List X → Option ℕ

@@ -2,8 +2,6 @@
 use Rattle.std.specs.Prelude.{◌≡◌, ℕ, Bool, true, false, ◌&&◌, List, Option, Some, None, ◌++◌, codes, decimal, find, is_some, Contains, if◌then◌else◌}
 use Rattle.std.specs.HashMap.{HashMap, get}
 use Rattle.std.specs.Option.{option_map, option_and_then, option_or}
-use Rattle.std.specs.declared.hash.FoldHasher.{FoldHasher}
-use Rattle.std.specs.declared.hash.BuildHasherDefault.{BuildHasherDefault}
 use Rattle.base_kit.specs.Pairs.{same_pair}
 use Rattle.base_kit.specs.Prefixes.{Prefix}
 use Rattle.base_kit.specs.declared.protocol.Protocol.{Protocol}
@@ -14,11 +12,12 @@ use Rattle.cfg_ast.specs.meaning.Topology.{is_in_area_interface}
 use Rattle.cfg_ast.specs.printing.Bare.{bare_address}
 use Rattle.cfg_ast.specs.declared.interface.Interface.{Interface}
 use Rattle.cfg_ast.specs.declared.network.Router.{Router}
+use Rattle.number_hashing.specs.declared.hashing.NumberHashing.{NumberHashing}
 use Rattle.config_emit.specs.Interfaces.{cost_over}
 use Rattle.config_emit.specs.declared.class_interfaces.Spot.{Spot}
 
 abbrev pub SpotsBySubnet : Type 0
-SpotsBySubnet = HashMap (ℕ × ℕ) Spot (BuildHasherDefault FoldHasher)
+SpotsBySubnet = HashMap (ℕ × ℕ) Spot NumberHashing
 
 abbrev pub spot_with : Option ℕ → Address → Spot
 spot_with cost a = record { address = a; cost = cost }

@@ -7,9 +7,11 @@ ghost use Rattle.config_emit.specs.Maps.{closed_map, act_in_map, act_out_map};
 ghost use Rattle.config_emit.specs.MapNumbers.{maps_now, AreNumbers, IsGrown, IsKnown, map_number, act_maps, HasMaps, KnowsClosed, AreKnown, ArePolicies};
 ghost use Rattle.srp_core.specs.declared.route.Act.TheVariants as act;
 
+use crate::map_keys::map_key;
 use crate::map_numbers::{MapNumbers, number_map};
 use crate::written::is_whole;
 use base_kit::NoMemory;
+use number_hashing::{FEW, NumberDigest, NumberHashing};
 use route_maps::Plain;
 use srp_core::Act;
 use std::alloc::Global;
@@ -117,6 +119,26 @@ fn maps_of_acts<'a>(
     Ok(numbers)
 }
 
+fn add_maps(alloc: Global, numbers: &mut NumberDigest, act: &Act) -> Result<(), NoMemory> {
+    if let Act::Import { out, into, .. } = act {
+        numbers.add(&map_key(alloc, out)?);
+        numbers.add(&map_key(alloc, into)?);
+    }
+    Ok(())
+}
+
+// The hash for a table of what the maps of the acts say.
+fn hashing_of(alloc: Global, acts: &[Act]) -> Result<NumberHashing, NoMemory> {
+    if acts.len() <= FEW {
+        return Ok(NumberHashing::plain());
+    }
+    let mut numbers = NumberDigest::for_count(acts.len());
+    for act in acts {
+        add_maps(alloc, &mut numbers, act)?;
+    }
+    Ok(numbers.hashing())
+}
+
 /// The maps of the acts, by numbers.
 pub(crate) fn policies_of<'a>(
     alloc: Global,
@@ -127,9 +149,10 @@ pub(crate) fn policies_of<'a>(
     ensures policies { IfOk result ArePolicies }
     ensures acts { IfOk result (λ p. p.acts.now ≡ acts.now) }
 {
+    let hashing = hashing_of(alloc, acts)?;
     let mut known = MapNumbers {
         maps: Vec::new(alloc),
-        numbers: HashMap::new(alloc),
+        numbers: HashMap::with_hasher(alloc, hashing),
     };
     let closed_number = number_map(alloc, &mut known, closed)?;
     let numbers = maps_of_acts(alloc, &mut known, closed_number, acts)?;

@@ -9,6 +9,7 @@ use crate::number::numbered;
 use base_kit::{List, NoMemory, Prefix, Protocol};
 use cfg_ast::{Address, Interface, Router};
 use cfg_check::AreaIndex;
+use number_hashing::{NumberDigest, NumberHashing};
 use std::alloc::Global;
 use std::collections::HashMap;
 
@@ -19,7 +20,7 @@ pub(crate) struct Spot {
     pub(crate) cost: Option<u16>,
 }
 
-type SpotsBySubnet = HashMap<(u32, u8), Spot>;
+type SpotsBySubnet = HashMap<(u32, u8), Spot, NumberHashing>;
 
 fn cost_over(protocol: Protocol, interface: &Interface) -> Option<u16>
     ensures { result ≡ cost_over protocol interface.now }
@@ -69,6 +70,17 @@ fn put_spot(
     Ok(())
 }
 
+// The hash for a table of the subnets.
+fn hashing_of(interfaces: &[Interface]) -> NumberHashing {
+    let mut numbers = NumberDigest::for_count(interfaces.len());
+    for interface in interfaces {
+        if let Some(address) = interface.up_address() {
+            numbers.add(&(address.addr(), address.len()));
+        }
+    }
+    numbers.hashing()
+}
+
 fn spots_of(
     alloc: Global,
     protocol: Protocol,
@@ -77,7 +89,7 @@ fn spots_of(
 ) -> Result<SpotsBySubnet, NoMemory>
     ensures { IfOk result (λ spots. AreSpots protocol index.now.router.now spots interfaces.now) }
 {
-    let mut spots: SpotsBySubnet = HashMap::new(alloc);
+    let mut spots: SpotsBySubnet = HashMap::with_hasher(alloc, hashing_of(interfaces));
     for interface in interfaces {
         put_spot(&mut spots, protocol, index, interface)?;
     }

@@ -5,6 +5,7 @@ ghost use Rattle.config_emit.specs.MapNumbers.{AreNumbers, with_map, place_of_ma
 
 use crate::map_keys::{EntryKey, map_key};
 use base_kit::NoMemory;
+use number_hashing::NumberHashing;
 use route_maps::Plain;
 use std::alloc::Global;
 use std::collections::HashMap;
@@ -13,7 +14,7 @@ use std::collections::HashMap;
 #[derive(Drop)]
 pub(crate) struct MapNumbers<'a> {
     pub(crate) maps: Vec<&'a Plain>,
-    pub(crate) numbers: HashMap<Vec<EntryKey>, usize>,
+    pub(crate) numbers: HashMap<Vec<EntryKey>, usize, NumberHashing>,
 }
 
 /// The number of a map, which is put last unless one that says the same is there.

@@ -20,5 +20,5 @@ pub(crate) fn numbered(alloc: Global, word: &str, number: usize) -> Result<Text,
     ensures { IfOk result (λ name. name ≡ word.now ++ decimal number) }
 {
     let name = format!(in alloc; "{word}{number}")?;
-    Text::copy_of(alloc, name.as_str())
+    Ok(Text::from_string(name))
 }

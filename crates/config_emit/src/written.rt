@@ -36,7 +36,7 @@ pub(crate) fn map_name(alloc: Global, k: usize) -> Result<Text, NoMemory>
     ensures { IfOk result (λ name. name ≡ map_name k) }
 {
     let name = format!(in alloc; "POLICY-{k}")?;
-    Text::copy_of(alloc, name.as_str())
+    Ok(Text::from_string(name))
 }
 
 // The name of the i-th list that an entry of map `k` matches.
@@ -44,7 +44,7 @@ fn match_name(alloc: Global, k: usize, seq: u32, i: usize) -> Result<Text, NoMem
     ensures { IfOk result (λ name. name ≡ match_name k seq i) }
 {
     let name = format!(in alloc; "POLICY-{k}-{seq}-{i}")?;
-    Text::copy_of(alloc, name.as_str())
+    Ok(Text::from_string(name))
 }
 
 // The name of the deletion list of an entry of map `k`.
@@ -52,7 +52,7 @@ fn deletion_name(alloc: Global, k: usize, seq: u32) -> Result<Text, NoMemory>
     ensures { IfOk result (λ name. name ≡ deletion_name k seq) }
 {
     let name = format!(in alloc; "POLICY-{k}-{seq}-D")?;
-    Text::copy_of(alloc, name.as_str())
+    Ok(Text::from_string(name))
 }
 
 fn bare_line(line: &CommunityLine) -> Result<CommunityLine, NoMemory>

@@ -8,6 +8,7 @@ use crate::cells::Member;
 use base_kit::{List, NoMemory, Prefix};
 use cfg_ast::{DestClass, Origin};
 use indexmap::IndexMap;
+use number_hashing::{NumberDigest, NumberHashing};
 use std::alloc::Global;
 
 /// What tells classes apart: the originators of a prefix, with their initial routes, and its cell.
@@ -18,7 +19,7 @@ pub struct Signature {
 }
 
 /// The prefixes of each signature, by the first prefix that has it.
-pub type Groups = IndexMap<Signature, List<Prefix>>;
+pub type Groups = IndexMap<Signature, List<Prefix>, NumberHashing>;
 
 // Puts a prefix into the group of its signature.
 fn add(
@@ -36,11 +37,29 @@ fn add(
     Ok(())
 }
 
+fn add_member(numbers: &mut NumberDigest, member: &Member) {
+    numbers.add(&member.cell);
+    numbers.add(&member.origins.len());
+    for origin in member.origins.as_slice() {
+        numbers.add(origin);
+    }
+}
+
+// The hash for a table of what the members are told apart by.
+fn hashing_of(members: &[Member]) -> NumberHashing {
+    let mut numbers = NumberDigest::for_count(members.len());
+    for member in members {
+        add_member(&mut numbers, member);
+    }
+    numbers.hashing()
+}
+
 /// The members, in their order, in their groups.
 pub fn groups_of(alloc: Global, members: Vec<Member>) -> Result<Groups, NoMemory>
     ensures { IfOk result (λ groups. map shown_group groups.entries ≡ grouped_with_all members.items []) }
 {
-    let mut groups = IndexMap::new(alloc);
+    let hashing = hashing_of(members.as_slice());
+    let mut groups = IndexMap::with_hasher(alloc, hashing);
     for member in members {
         let Member {
             prefix,

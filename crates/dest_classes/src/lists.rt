@@ -6,6 +6,7 @@ ghost use Rattle.dest_classes.specs.Lists.{rule_of, rules_of, AreSaid, with_list
 
 use base_kit::NoMemory;
 use cfg_ast::{Network, PrefixEntry, PrefixList};
+use number_hashing::{NumberDigest, NumberHashing};
 use std::alloc::Global;
 use std::collections::HashSet;
 
@@ -46,7 +47,7 @@ fn rules_of(alloc: Global, list: &PrefixList) -> Result<Vec<Rule>, NoMemory>
 // Puts a list among those to be asked, unless one of them says the same.
 fn ask<'a>(
     alloc: Global,
-    said: &mut HashSet<Vec<Rule>>,
+    said: &mut HashSet<Vec<Rule>, NumberHashing>,
     asked: &mut Vec<&'a PrefixList>,
     list: &'a PrefixList,
 ) -> Result<(), NoMemory>
@@ -60,11 +61,27 @@ fn ask<'a>(
     Ok(())
 }
 
+fn add_list(numbers: &mut NumberDigest, list: &PrefixList) {
+    numbers.add(&list.entries.len());
+    for entry in list.entries.as_slice() {
+        numbers.add(&rule_of(entry));
+    }
+}
+
+// The hash for a table of what the lists say.
+fn hashing_of(lists: &[&PrefixList]) -> NumberHashing {
+    let mut numbers = NumberDigest::for_count(lists.len());
+    for list in lists {
+        add_list(&mut numbers, list);
+    }
+    numbers.hashing()
+}
+
 // The lists: of several that say the same, only the first.
 fn different<'a>(alloc: Global, lists: &[&'a PrefixList]) -> Result<Vec<&'a PrefixList>, NoMemory>
     ensures { IfOk result (λ v. map (λ list. list.now) v.items ≡ different (map (λ list. list.now) lists.now)) }
 {
-    let mut said = HashSet::new(alloc);
+    let mut said = HashSet::with_hasher(alloc, hashing_of(lists));
     let mut asked = Vec::new(alloc);
     for list in lists {
         ask(alloc, &mut said, &mut asked, list)?;

@@ -2,10 +2,9 @@
 use Rattle.std.proofs.Common.{◌≡◌, ℕ, ◌+◌, ◌<◌, Bool, true, false, cond, ◌&&◌, nat_eq, List, [], ◌∷◌, ◌++◌, length, get_or, take, Option, Some, None, refl, sym, ◌∙◌, ap, arith}
 use Rattle.std.specs.Option.{option_or}
 use Rattle.std.specs.HashMap.{HashMap, get}
-use Rattle.std.specs.declared.hash.FoldHasher.{FoldHasher}
-use Rattle.std.specs.declared.hash.BuildHasherDefault.{BuildHasherDefault}
 use Rattle.std.proofs.lemmas.Bool.Decides.{nat_tests}
 use Rattle.std.proofs.lemmas.List.{take_more}
+use Rattle.number_hashing.specs.declared.hashing.NumberHashing.{NumberHashing}
 use Rattle.net_topology.specs.Ups.{last_where, same_attachment, IsLookup}
 use Rattle.net_topology.specs.declared.ups.Attachment.{Attachment}
 use Rattle.net_topology.specs.declared.ups.Up.{Up}
@@ -20,7 +19,7 @@ last_where-push {X} test (y ∷ ys) x = ap (λ (o : Option X). option_or o (cond
     ∙ later_first (test x) x (last_where test ys) (cond (test y) (Some y) None)
 
 -- one item more
-pub lookup_turn : {K : Type 0} (same : K → K → Bool) (key_of : Up → K) (old new : HashMap K Up (BuildHasherDefault FoldHasher)) (xs : List Up) (i : ℕ)
+pub lookup_turn : {K : Type 0} (same : K → K → Bool) (key_of : Up → K) (old new : HashMap K Up NumberHashing) (xs : List Up) (i : ℕ)
     (x : Up) → ((p q : K) → same p q ≡ same q p) → i < length xs → x ≡ get_or xs i x
     → ((q : K) → get same new q ≡ cond (same (key_of x) q) (Some x) (get same old q)) → IsLookup same key_of old (take i xs) →
     IsLookup same key_of new (take (i + 1) xs)

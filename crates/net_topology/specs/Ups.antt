@@ -3,12 +3,11 @@ use Rattle.std.specs.Prelude.{◌≡◌, ℕ, Bool, ◌&&◌, List, [], ◌∷�
 use Rattle.std.specs.Option.{option_map, option_or}
 use Rattle.std.specs.List.{enumerate_from}
 use Rattle.std.specs.HashMap.{HashMap, get}
-use Rattle.std.specs.declared.hash.FoldHasher.{FoldHasher}
-use Rattle.std.specs.declared.hash.BuildHasherDefault.{BuildHasherDefault}
 use Rattle.cfg_ast.specs.meaning.Addresses.{Address}
 use Rattle.cfg_ast.specs.declared.interface.Interface.{Interface}
 use Rattle.cfg_ast.specs.declared.network.Router.{Router}
 use Rattle.cfg_ast.specs.meaning.Topology.{up_address, first_address}
+use Rattle.number_hashing.specs.declared.hashing.NumberHashing.{NumberHashing}
 use Rattle.net_topology.specs.declared.ups.Attachment.{Attachment}
 use Rattle.net_topology.specs.declared.ups.Up.{Up}
 
@@ -44,5 +43,5 @@ abbrev pub last_with : {K : Type 0} → (K → K → Bool) → (Up → K) → Li
 last_with same key_of ups key = last_where (λ x. same key (key_of x)) ups
 
 -- the map has the last of the items with each key
-pub record IsLookup {K : Type 0} (same : K → K → Bool) (key_of : Up → K) (lookup : HashMap K Up (BuildHasherDefault FoldHasher)) (ups : List Up) : Type 0 where
+pub record IsLookup {K : Type 0} (same : K → K → Bool) (key_of : Up → K) (lookup : HashMap K Up NumberHashing) (ups : List Up) : Type 0 where
   pub each : (key : K) → get same lookup key ≡ last_with same key_of ups key

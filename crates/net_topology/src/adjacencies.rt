@@ -12,6 +12,7 @@ use base_kit::{List, NoMemory};
 use buckets::{Index, items_at, push_at};
 use cfg_ast::{Interface, Link, Network, Router};
 use cfg_check::AreaIndex;
+use number_hashing::{NumberDigest, NumberHashing};
 use std::alloc::Global;
 use std::collections::HashMap;
 
@@ -81,11 +82,20 @@ fn spots(alloc: Global, network: &Network) -> Result<Vec<Spot>, NoMemory>
     Ok(found)
 }
 
+// The hash for a table of the subnets.
+fn hashing_of(spots: &[Spot]) -> NumberHashing {
+    let mut numbers = NumberDigest::for_count(spots.len());
+    for spot in spots {
+        numbers.add(&(spot.len, spot.first));
+    }
+    numbers.hashing()
+}
+
 // The spots of each subnet, in order.
 fn by_subnet(alloc: Global, spots: &[Spot]) -> Result<Index<Spot>, NoMemory>
     ensures { IfOk result (λ index. IsIndex pair_of index spots.now) }
 {
-    let mut index: Index<Spot> = HashMap::new(alloc);
+    let mut index: Index<Spot> = HashMap::with_hasher(alloc, hashing_of(spots));
     for spot in spots {
         push_at(alloc, &mut index, (spot.len, spot.first), *spot)?;
     }

@@ -11,6 +11,7 @@ use crate::places::place;
 use base_kit::NoMemory;
 use buckets::{Index, items_at, push_at};
 use cfg_ast::{Neighbor, Network, Router};
+use number_hashing::{NumberDigest, NumberHashing};
 use std::alloc::Global;
 use std::collections::HashMap;
 
@@ -92,11 +93,20 @@ fn all_peers(alloc: Global, network: &Network) -> Result<Vec<Peer>, NoMemory>
     Ok(found)
 }
 
+// The hash for a table of the routers of peers and the addresses that they name.
+fn hashing_of(peers: &[Peer]) -> NumberHashing {
+    let mut numbers = NumberDigest::for_count(peers.len());
+    for peer in peers {
+        numbers.add(&(peer.router, peer.addr));
+    }
+    numbers.hashing()
+}
+
 // The peers by their routers and the addresses that they name, in order.
 fn by_end(alloc: Global, peers: &[Peer]) -> Result<Index<Peer>, NoMemory>
     ensures { IfOk result (λ index. IsIndex own_end index peers.now) }
 {
-    let mut index: Index<Peer> = HashMap::new(alloc);
+    let mut index: Index<Peer> = HashMap::with_hasher(alloc, hashing_of(peers));
     for peer in peers {
         push_at(alloc, &mut index, (peer.router, peer.addr), *peer)?;
     }

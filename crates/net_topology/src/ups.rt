@@ -8,6 +8,7 @@ use crate::peers::Peer;
 use crate::places::place;
 use base_kit::NoMemory;
 use cfg_ast::{Address, Interface, Router};
+use number_hashing::{NumberDigest, NumberHashing};
 use std::alloc::Global;
 use std::collections::HashMap;
 
@@ -31,8 +32,8 @@ pub(crate) struct Up {
 #[derive(Drop)]
 pub(crate) struct Ups {
     pub(crate) all: Vec<Up>,
-    pub(crate) by_addr: HashMap<u32, Up>,
-    pub(crate) by_attachment: HashMap<Attachment, Up>,
+    pub(crate) by_addr: HashMap<u32, Up, NumberHashing>,
+    pub(crate) by_attachment: HashMap<Attachment, Up, NumberHashing>,
     pub ghost addrs: { IsLookup nat_eq addr_of by_addr all.items },
     pub ghost attachments: { IsLookup same_attachment attachment_of by_attachment all.items },
 }
@@ -82,20 +83,38 @@ fn all_ups(alloc: Global, routers: &[Router]) -> Result<Vec<Up>, NoMemory>
     Ok(found)
 }
 
-fn by_addr(alloc: Global, ups: &[Up]) -> Result<HashMap<u32, Up>, NoMemory>
+// The hash for tables of the addresses and of where they are attached.
+fn hashing_of(ups: &[Up]) -> NumberHashing {
+    let mut numbers = NumberDigest::for_count(ups.len());
+    for up in ups {
+        numbers.add(&up.addr);
+        numbers.add(&up.at);
+    }
+    numbers.hashing()
+}
+
+fn by_addr(
+    alloc: Global,
+    hashing: NumberHashing,
+    ups: &[Up],
+) -> Result<HashMap<u32, Up, NumberHashing>, NoMemory>
     ensures { IfOk result (λ lookup. IsLookup nat_eq addr_of lookup ups.now) }
 {
-    let mut lookup: HashMap<u32, Up> = HashMap::new(alloc);
+    let mut lookup: HashMap<u32, Up, NumberHashing> = HashMap::with_hasher(alloc, hashing);
     for up in ups {
         lookup.insert(up.addr, *up)?;
     }
     Ok(lookup)
 }
 
-fn by_attachment(alloc: Global, ups: &[Up]) -> Result<HashMap<Attachment, Up>, NoMemory>
+fn by_attachment(
+    alloc: Global,
+    hashing: NumberHashing,
+    ups: &[Up],
+) -> Result<HashMap<Attachment, Up, NumberHashing>, NoMemory>
     ensures { IfOk result (λ lookup. IsLookup same_attachment attachment_of lookup ups.now) }
 {
-    let mut lookup: HashMap<Attachment, Up> = HashMap::new(alloc);
+    let mut lookup: HashMap<Attachment, Up, NumberHashing> = HashMap::with_hasher(alloc, hashing);
     for up in ups {
         lookup.insert(up.at, *up)?;
     }
@@ -108,8 +127,9 @@ impl Ups {
         ensures { IfOk result (λ ups. ups.all.items ≡ ups_of routers.now) }
     {
         let all = all_ups(alloc, routers)?;
-        let by_addr = by_addr(alloc, all.as_slice())?;
-        let by_attachment = by_attachment(alloc, all.as_slice())?;
+        let hashing = hashing_of(all.as_slice());
+        let by_addr = by_addr(alloc, hashing, all.as_slice())?;
+        let by_attachment = by_attachment(alloc, hashing, all.as_slice())?;
         Ok(Ups {
             all,
             by_addr,

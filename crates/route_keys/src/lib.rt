@@ -9,5 +9,5 @@
 mod lone;
 mod parts;
 
-pub use lone::{lone_numbers, lone_on};
+pub use lone::{LoneNumbers, lone_numbers, lone_on};
 pub use parts::{comms_of, path_of, preference_of, same_route, size_of};

@@ -10,11 +10,15 @@ ghost use Rattle.route_keys.specs.Lone.{HasLoneNumbers};
 
 use crate::parts::path_of;
 use base_kit::{NoMemory, NumSet};
+use number_hashing::{NumberDigest, NumberHashing};
 use srp_core::{Route, Srp};
 use std::alloc::Global;
 use std::collections::HashSet;
 
-fn with_marked(numbers: HashSet<u32>, mark: bool, number: u32) -> Result<HashSet<u32>, NoMemory>
+/// The AS numbers of lone routers.
+pub type LoneNumbers = HashSet<u32, NumberHashing>;
+
+fn with_marked(numbers: LoneNumbers, mark: bool, number: u32) -> Result<LoneNumbers, NoMemory>
     ensures { IfOk result (λ more. (n : ℕ) → contains nat_eq more n ≡ (mark && nat_eq number n) || contains nat_eq numbers n) }
 {
     if !mark {
@@ -25,12 +29,21 @@ fn with_marked(numbers: HashSet<u32>, mark: bool, number: u32) -> Result<HashSet
     Ok(numbers)
 }
 
+// The hash for a table of these numbers.
+fn hashing_of(numbers: &[u32]) -> NumberHashing {
+    let mut digest = NumberDigest::for_count(numbers.len());
+    for number in numbers {
+        digest.add(number);
+    }
+    digest.hashing()
+}
+
 // The numbers of the marked routers.
-fn marked(alloc: Global, marks: &[bool], numbers: &[u32]) -> Result<HashSet<u32>, NoMemory>
+fn marked(alloc: Global, marks: &[bool], numbers: &[u32]) -> Result<LoneNumbers, NoMemory>
     requires { length marks.now ≡ length numbers.now }
     ensures { IfOk result (λ set. (n : ℕ) → contains nat_eq set n ≡ has_marked_number marks.now numbers.now n) }
 {
-    let mut set: HashSet<u32> = HashSet::new(alloc);
+    let mut set: LoneNumbers = HashSet::with_hasher(alloc, hashing_of(numbers));
     let mut place = marks.len();
     while place > 0 {
         place -= 1;
@@ -49,7 +62,7 @@ fn differs(last: Option<u32>, number: u32) -> bool
 }
 
 // The numbers of a path that are in the set. Runs of one number give it once.
-fn met(alloc: Global, numbers: &HashSet<u32>, path: &[u32]) -> Result<Vec<u32>, NoMemory>
+fn met(alloc: Global, numbers: &LoneNumbers, path: &[u32]) -> Result<Vec<u32>, NoMemory>
     ensures { IfOk result (λ found. (n : ℕ) → has found.items n ≡ contains nat_eq numbers.now n && is_on n path.now) }
 {
     let mut found = Vec::new(alloc);
@@ -75,7 +88,7 @@ fn as_set(alloc: Global, numbers: Vec<u32>) -> NumSet
 }
 
 // The numbers of a path that are in the set, ascending.
-fn chosen(alloc: Global, numbers: &HashSet<u32>, path: &[u32]) -> Result<NumSet, NoMemory>
+fn chosen(alloc: Global, numbers: &LoneNumbers, path: &[u32]) -> Result<NumSet, NoMemory>
     ensures { IfOk result (λ set. set ≡ chosen (contains nat_eq numbers.now) path.now) }
 {
     let found = met(alloc, numbers, path)?;
@@ -84,14 +97,14 @@ fn chosen(alloc: Global, numbers: &HashSet<u32>, path: &[u32]) -> Result<NumSet,
 
 /// The numbers on the path of a route that are in the set, ascending. With `lone_numbers` they are those
 /// of lone routers, by which keys of routes differ.
-pub fn lone_on(alloc: Global, numbers: &HashSet<u32>, route: &Route) -> Result<NumSet, NoMemory>
+pub fn lone_on(alloc: Global, numbers: &LoneNumbers, route: &Route) -> Result<NumSet, NoMemory>
     ensures { IfOk result (λ set. set ≡ chosen (contains nat_eq numbers.now) (path_of route.now)) }
 {
     chosen(alloc, numbers, path_of(route))
 }
 
 /// The numbers of the lone routers of a problem, looked up in constant time.
-pub fn lone_numbers(alloc: Global, srp: &Srp) -> Result<HashSet<u32>, NoMemory>
+pub fn lone_numbers(alloc: Global, srp: &Srp) -> Result<LoneNumbers, NoMemory>
     ensures { IfOk result (HasLoneNumbers srp.now) }
 {
     let _known = srp.count();

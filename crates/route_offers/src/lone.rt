@@ -5,19 +5,18 @@ ghost use Rattle.std.specs.HashSet.{contains};
 ghost use Rattle.route_offers.specs.Lone.{chosen_on_path, IsLoneOf};
 
 use base_kit::{List, NoMemory, NumSet};
-use route_keys::{lone_numbers, lone_on};
+use route_keys::{LoneNumbers, lone_numbers, lone_on};
 use srp_core::{Labels, Route, Srp};
 use std::alloc::Global;
-use std::collections::HashSet;
 
 /// The numbers of the lone routers, and those of them that are on the path of each label.
 #[derive(Drop)]
 pub struct Lone {
-    pub numbers: HashSet<u32>,
+    pub numbers: LoneNumbers,
     pub paths: List<NumSet>,
 }
 
-fn lone_of(alloc: Global, numbers: &HashSet<u32>, label: &Option<Route>) -> Result<NumSet, NoMemory>
+fn lone_of(alloc: Global, numbers: &LoneNumbers, label: &Option<Route>) -> Result<NumSet, NoMemory>
     ensures { IfOk result (λ set. set ≡ chosen_on_path (contains nat_eq numbers.now) label.now) }
 {
     match label {
@@ -28,7 +27,7 @@ fn lone_of(alloc: Global, numbers: &HashSet<u32>, label: &Option<Route>) -> Resu
 
 fn lone_paths(
     alloc: Global,
-    numbers: &HashSet<u32>,
+    numbers: &LoneNumbers,
     labels: &[Option<Route>],
 ) -> Result<List<NumSet>, NoMemory>
     ensures { IfOk result (λ paths. paths ≡ map (chosen_on_path (contains nat_eq numbers.now)) labels.now) }

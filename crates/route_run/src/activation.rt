@@ -8,10 +8,9 @@ ghost use Rattle.route_run.specs.Choices.{IsChoice};
 
 use crate::choosing::{Choice, choose};
 use base_kit::NoMemory;
-use route_keys::lone_numbers;
+use route_keys::{LoneNumbers, lone_numbers};
 use srp_core::{Labels, Srp};
 use std::alloc::Global;
-use std::collections::HashSet;
 use std::marker::Model;
 
 /// Activates the routers of a problem, any number of times. It has looked through the problem once, so
@@ -21,7 +20,7 @@ use std::marker::Model;
 pub struct Runner<'a> {
     alloc: Global,
     srp: &'a Srp,
-    lone: HashSet<u32>,
+    lone: LoneNumbers,
 }
 
 impl<'a> Model for Runner<'a> {

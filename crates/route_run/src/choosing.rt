@@ -7,10 +7,9 @@ ghost use Rattle.route_run.specs.Choices.{IsBestUpto, IsChoice};
 
 use crate::comparing::beats;
 use base_kit::{List, NoMemory};
-use route_keys::same_route;
+use route_keys::{LoneNumbers, same_route};
 use srp_core::{Candidate, Route};
 use std::alloc::Global;
-use std::collections::HashSet;
 
 /// What a router does with its label.
 #[derive(Drop)]
@@ -24,7 +23,7 @@ pub(crate) enum Choice {
 // The place of the best candidate so far, or of the next one where that is better.
 fn better_place(
     alloc: Global,
-    lone: &HashSet<u32>,
+    lone: &LoneNumbers,
     candidates: &[Candidate],
     best: usize,
     place: usize,
@@ -48,7 +47,7 @@ fn better_place(
 // The place of the first candidate of best key, or None where there is no candidate.
 fn first_best(
     alloc: Global,
-    lone: &HashSet<u32>,
+    lone: &LoneNumbers,
     candidates: &[Candidate],
 ) -> Result<Option<usize>, NoMemory>
     ensures { IfOk result (λ best. MatchOption best (length candidates.now ≡ 0) (IsBestUpto (contains nat_eq lone.now) candidates.now (length candidates.now))) }
@@ -77,7 +76,7 @@ fn is_held(candidates: &[Candidate], route: &Route) -> bool
 // Whether the label is a candidate of best key, which is that of `best`.
 fn is_kept(
     alloc: Global,
-    lone: &HashSet<u32>,
+    lone: &LoneNumbers,
     candidates: &[Candidate],
     best: usize,
     label: &Option<Route>,
@@ -99,7 +98,7 @@ fn is_kept(
 /// What a router of that label chooses among its candidates.
 pub(crate) fn choose(
     alloc: Global,
-    lone: &HashSet<u32>,
+    lone: &LoneNumbers,
     candidates: List<Candidate>,
     label: &Option<Route>,
 ) -> Result<Choice, NoMemory>

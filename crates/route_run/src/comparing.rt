@@ -8,17 +8,16 @@ ghost use Rattle.srp_core.specs.Routes.{path_of, chosen};
 ghost use Rattle.route_run.specs.Activations.{beats};
 
 use base_kit::NoMemory;
-use route_keys::{comms_of, lone_on, path_of, preference_of, size_of};
+use route_keys::{LoneNumbers, comms_of, lone_on, path_of, preference_of, size_of};
 use srp_core::Route;
 use std::alloc::Global;
 use std::cmp::Ordering;
-use std::collections::HashSet;
 
 // How the numbers of lone routers on two paths compare. They are not sought where there are none, nor on
 // equal paths.
 fn compare_lone(
     alloc: Global,
-    lone: &HashSet<u32>,
+    lone: &LoneNumbers,
     route: &Route,
     other: &Route,
 ) -> Result<Ordering, NoMemory>
@@ -37,7 +36,7 @@ fn compare_lone(
 #[tactic(auto, unfolding(srp_core::specs::Routes::compare_keys))]
 pub(crate) fn beats(
     alloc: Global,
-    lone: &HashSet<u32>,
+    lone: &LoneNumbers,
     route: &Route,
     other: &Route,
 ) -> Result<bool, NoMemory>

@@ -10,10 +10,10 @@ ghost use Rattle.solution_lift.specs.Carrying.{IsTaken, GetsRoute, source_of};
 ghost use Rattle.solution_lift.specs.Sides.{is_from, are_alike};
 
 use base_kit::{Edge, NoMemory, NumSet};
-use route_keys::lone_on;
+use route_keys::{LoneNumbers, lone_on};
 use srp_core::{Candidate, Labels, Route, Srp};
 use std::alloc::Global;
-use std::collections::{HashMap, HashSet};
+use std::collections::HashMap;
 
 // Whether the candidate came over an edge from that side.
 fn is_from(edges: &[Edge], sides: &[u32], candidate: &Candidate, source: u32) -> bool
@@ -57,7 +57,7 @@ fn fits(
     alloc: Global,
     edges: &[Edge],
     sides: &[u32],
-    lone: &HashSet<u32>,
+    lone: &LoneNumbers,
     candidate: &Candidate,
     source: u32,
     asked: &Route,
@@ -80,7 +80,7 @@ fn taken(
     alloc: Global,
     target: &Srp,
     sides: &[u32],
-    lone: &HashSet<u32>,
+    lone: &LoneNumbers,
     labels: &Labels,
     router: u32,
     source: u32,
@@ -128,7 +128,7 @@ pub fn next(
     at: &[u32],
     sides: &[u32],
     sources: &HashMap<u32, u32>,
-    lone: &HashSet<u32>,
+    lone: &LoneNumbers,
     labels: &Labels,
     router: u32,
 ) -> Result<Option<Route>, NoMemory>

@@ -7,12 +7,12 @@ ghost use Rattle.srp_core.specs.Quotient.{IsAdmissible};
 ghost use Rattle.srp_quotient.specs.Groups.{small_of};
 
 use crate::edges::edges_of;
-use crate::tables::{acts_copy, first_members, marks_of, names_of, numbers_of, starts_of};
+use crate::tables::{first_members, marks_of, names_of, numbers_of, starts_of};
 use abstract_net::Quotient;
 use abstract_net::laws::quotient_carries;
 use base_kit::NoMemory;
 use refine_partition::Partition;
-use srp_core::Srp;
+use srp_core::{Srp, acts_copy};
 use srp_quotient::laws::quotient_is_problem;
 use std::alloc::Global;
 

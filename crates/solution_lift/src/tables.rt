@@ -12,8 +12,7 @@ ghost use Rattle.abstract_net.specs.Carried.{IsBelow};
 use abstract_net::QLink;
 use base_kit::{List, NoMemory, Text};
 use refine_partition::Partition;
-use route_maps::map_copy;
-use srp_core::{Act, Route, Srp};
+use srp_core::{Route, Srp};
 use std::alloc::Global;
 
 /// The first member of a group.
@@ -168,28 +167,4 @@ pub fn numbers_of(
         numbers.push(number_of_group(srp, p, is_linked, group))?;
     }
     Ok(numbers)
-}
-
-fn act_copy(alloc: Global, act: &Act) -> Result<Act, NoMemory>
-    ensures { IfOk result (λ copy. copy ≡ act.now) }
-{
-    match act {
-        Act::Import { out, sends, into } => Ok(Act::Import {
-            out: map_copy(alloc, out)?,
-            sends: *sends,
-            into: map_copy(alloc, into)?,
-        }),
-        Act::Cost(cost) => Ok(Act::Cost(*cost)),
-    }
-}
-
-/// A copy of the acts.
-pub fn acts_copy(alloc: Global, acts: &[Act]) -> Result<List<Act>, NoMemory>
-    ensures { IfOk result (λ copies. copies ≡ acts.now) }
-{
-    let mut copies = List::new(alloc);
-    for act in acts {
-        copies.push(act_copy(alloc, act)?)?;
-    }
-    Ok(copies)
 }

@@ -9,11 +9,10 @@ ghost use Rattle.solution_search.specs.Lookups.{GivesAtMost, IsHighest};
 
 use base_kit::{Edge, NoMemory};
 use refine_partition::{Exports, exports_of};
-use route_keys::lone_numbers;
+use route_keys::{LoneNumbers, lone_numbers};
 use route_maps::Plain;
 use srp_core::{Act, Labels, Srp};
 use std::alloc::Global;
-use std::collections::HashSet;
 use std::marker::Model;
 
 /// A problem, the numbers of its lone routers, what each router exports, and for each act a preference
@@ -22,7 +21,7 @@ use std::marker::Model;
 pub(crate) struct Lookups<'a> {
     pub(crate) alloc: Global,
     pub(crate) srp: &'a Srp,
-    pub(crate) lone: HashSet<u32>,
+    pub(crate) lone: LoneNumbers,
     pub(crate) exports: Exports,
     pub(crate) highest: Vec<u32>,
 }

@@ -1,18 +1,25 @@
 //! Acts of sessions, found by what they import.
 
 ghost use Rattle.std.specs.Prelude.{◌≡◌, ◌<◌, ◌^◌, [], ◌∷◌, ◌++◌, true, false, None, Some, IfOk, OnOk, IfSome, Contains, length, slice_get};
-ghost use Rattle.srp_build.specs.BgpActs.{function_key, AreTwoImports, IsLike, AreUnlike, AreFoundByNodes, IsActOfFunction, IsNumberFor};
+ghost use Rattle.srp_build.specs.BgpActs.{function_key, AreTwoImports, IsLike, AreUnlike, AreFoundByNodes, IsActOfFunction, IsNumberFor, low_half};
 
 use crate::hops::Hop;
 use crate::imports::ImportByMaps;
-use crate::sums::low_half;
 use base_kit::NoMemory;
 use buckets::{Index, items_at, push_at};
 use dd_core::Store;
+use number_hashing::NumberHashing;
 use policy_dd::laws::one_form;
 use policy_dd::{EdgeFn, accepts_some, same};
 use std::alloc::Global;
 use std::collections::HashMap;
+
+/// The last 32 bits of a number.
+pub fn low_half(number: usize) -> u32
+    ensures { result ≡ low_half number }
+{
+    (number % 4_294_967_296) as u32
+}
 
 /// An act of sessions: the first direction that has it, the import there, and the function that all
 /// directions with this act have.
@@ -77,7 +84,7 @@ impl Acts {
     {
         Acts {
             acts: Vec::new(alloc),
-            by_nodes: HashMap::new(alloc),
+            by_nodes: HashMap::with_hasher(alloc, NumberHashing::plain()),
         }
     }
 

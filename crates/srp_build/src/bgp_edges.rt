@@ -43,16 +43,17 @@ fn originates(init: &[Option<Route>], router: u32) -> bool
 }
 
 impl BgpEdges {
-    fn new(alloc: Global) -> Self
-        ensures acts { result.acts.acts.items ≡ [] }
-        ensures imports { result.imports.met.items ≡ [] }
-        ensures edges { result.edges ≡ [] }
+    // No edges yet, with room for so many.
+    fn with_room(alloc: Global, count: usize) -> Result<Self, NoMemory>
+        ensures acts { IfOk result (λ found. found.acts.acts.items ≡ []) }
+        ensures imports { IfOk result (λ found. found.imports.met.items ≡ []) }
+        ensures edges { IfOk result (λ found. found.edges ≡ []) }
     {
-        BgpEdges {
+        Ok(BgpEdges {
             acts: Acts::new(alloc),
             imports: MetImports::new(alloc),
-            edges: List::new(alloc),
-        }
+            edges: List::from_vec(Vec::with_capacity(alloc, count)?),
+        })
     }
 
     // Puts the edge of a direction last, unless the importer originates or accepts nothing.
@@ -117,8 +118,8 @@ pub fn bgp_edges(
     ensures edges { IfOk result (λ found. (routers : List Router) → AreImportsOf routers directions.now.policies directions.now.hops.items directions.now.imports.items → AreEdgesOfSessions store.new routers init.now (line_maps directions.now.policies maps.now) directions.now.hops.items found) }
 {
     growth_adds_up();
-    let mut found = BgpEdges::new(alloc);
     let hops = directions.hops.as_slice();
+    let mut found = BgpEdges::with_room(alloc, hops.len())?;
     let imports = directions.imports.as_slice();
     for i in 0..hops.len() {
         found.take(alloc, store, init, maps, &hops[i], &imports[i])?;

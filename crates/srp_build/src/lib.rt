@@ -17,6 +17,7 @@ mod bgp_problem;
 mod costs;
 mod directions;
 mod fixed;
+mod hashes;
 mod hop_numbers;
 mod hops;
 mod imports;
@@ -31,7 +32,6 @@ mod problem;
 mod routers;
 mod seen;
 mod session_hops;
-mod sums;
 
 pub use directions::{Directions, directions_of};
 pub use problem::{build, build_over, restart};

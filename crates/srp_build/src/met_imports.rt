@@ -4,13 +4,13 @@ ghost use Rattle.std.specs.Prelude.{◌≡◌, ◌<◌, ◌^◌, [], ◌∷◌, 
 ghost use Rattle.dd_core.specs.Sets.{Grows};
 ghost use Rattle.srp_build.specs.MetImports.{AreRight, IsActOfImport, IsMaybeNew, AreMapsWithin};
 
-use crate::acts::Acts;
+use crate::acts::{Acts, low_half};
 use crate::hops::Hop;
 use crate::imports::ImportByMaps;
-use crate::sums::low_half;
 use base_kit::NoMemory;
 use buckets::{Index, items_at, push_at};
 use dd_core::Store;
+use number_hashing::NumberHashing;
 use policy_dd::edge_fn;
 use policy_dd::laws::edge_kept;
 use route_maps::Plain;
@@ -81,7 +81,7 @@ impl MetImports {
     {
         MetImports {
             met: Vec::new(alloc),
-            by_maps: HashMap::new(alloc),
+            by_maps: HashMap::with_hasher(alloc, NumberHashing::plain()),
         }
     }
 

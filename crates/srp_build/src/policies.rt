@@ -108,26 +108,26 @@ impl PolicyTable {
 
 // A router with the places of its lists and maps, and the numbers of the policies of its lines so far.
 #[derive(Clone, Copy)]
-struct RouterLines<'a> {
+struct RouterLines<'a, 'n> {
     pub router: &'a Router,
     pub places: &'a Places,
-    pub numbers: &'a [usize],
+    pub numbers: &'n [usize],
 }
 
 // The number of the policy of the next line of a router, which stands at the place.
-fn policy_of_line(
+fn policy_of_line<'a>(
     alloc: Global,
     table: &mut PolicyTable,
-    seen: &mut Seen,
+    seen: &mut Seen<'a>,
     first: LinePlace,
-    before: RouterLines,
+    before: RouterLines<'a, '_>,
     line: &Neighbor,
 ) -> Result<usize, NoMemory>
     requires { ArePlacesOfRouter before.router.now before.places.now }
     ensures { IfOk result (IsSeenOrNumbered table.old table.new first before.entry.router.now before.entry.numbers.now line.now) }
 {
     let lines = neighbors(before.router);
-    let known = seen.known_number(alloc, first.inbound, lines, before.numbers, line)?;
+    let known = seen.known_number(first.inbound, lines, before.numbers, line)?;
     if let Some(number) = known {
         return Ok(number);
     }
@@ -153,7 +153,7 @@ fn policies_of_router(
     let router = &routers[at];
     let own = &places[at];
     let lines = neighbors(router);
-    let mut seen = Seen::new(alloc);
+    let mut seen = Seen::new(alloc, inbound, lines);
     let mut numbers = List::new(alloc);
     for i in 0..lines.len() {
         let first = LinePlace {

@@ -5,12 +5,11 @@ ghost use Rattle.cfg_ast.specs.meaning.Policy.{name_of};
 ghost use Rattle.srp_build.specs.Plains.{IsAsEarlier};
 
 use crate::lines::{list_named, map_named};
-use crate::sums::sum_of_line;
 use base_kit::NoMemory;
-use buckets::{Index, items_at, push_at};
 use cfg_ast::{Named, Neighbor};
+use indexmap::IndexMap;
+use numbered_names::{FEW, NameDigest, NameHashing};
 use std::alloc::Global;
-use std::collections::HashMap;
 
 fn is_same_name(a: &Option<Named>, b: &Option<Named>) -> bool
     ensures { result ≡ true → name_of a.now ≡ name_of b.now }
@@ -43,24 +42,6 @@ fn number_if_same(
     Some(*number)
 }
 
-// The number of an earlier line that names the same map and the same list.
-fn number_of_earlier(
-    inbound: bool,
-    lines: &[Neighbor],
-    numbers: &[usize],
-    line: &Neighbor,
-    places: &[usize],
-) -> Option<usize>
-    ensures { IfSome result (IsAsEarlier inbound lines.now numbers.now line.now) }
-{
-    for place in places {
-        if let Some(number) = number_if_same(inbound, lines, numbers, line, *place) {
-            return Some(number);
-        }
-    }
-    None
-}
-
 // The number of the line before, if that names the same map and the same list.
 fn number_of_last(
     inbound: bool,
@@ -74,19 +55,47 @@ fn number_of_last(
     number_if_same(inbound, lines, numbers, line, last)
 }
 
+fn name_in(named: &Option<Named>) -> Option<&str> {
+    match named {
+        Some(named) => Some(named.name.as_str()),
+        None => None,
+    }
+}
+
+// The names of the map and the list of a line.
+fn names_on(inbound: bool, line: &Neighbor) -> (Option<&str>, Option<&str>) {
+    let map = name_in(map_named(inbound, line));
+    let list = name_in(list_named(inbound, line));
+    (map, list)
+}
+
+// How the names on the lines are hashed.
+fn hashing_of(inbound: bool, lines: &[Neighbor]) -> NameHashing {
+    if lines.len() <= FEW {
+        return NameHashing::plain();
+    }
+    let mut names = NameDigest::new();
+    for line in lines {
+        let (map, list) = names_on(inbound, line);
+        names.add(map.unwrap_or("").as_bytes());
+        names.add(list.unwrap_or("").as_bytes());
+    }
+    names.hashing()
+}
+
 /// The lines of a router that were seen: of several that name the same map and the same list, only one.
 /// The last line may not be noted yet, so that a router whose lines all name the same needs no index.
 #[derive(Drop)]
-pub struct Seen {
-    by_sum: Index<usize>,
+pub struct Seen<'a> {
+    by_names: IndexMap<(Option<&'a str>, Option<&'a str>), usize, NameHashing>,
     is_last_noted: bool,
 }
 
-impl Seen {
-    /// No lines yet.
-    pub fn new(alloc: Global) -> Self {
+impl<'a> Seen<'a> {
+    /// None of the lines yet.
+    pub fn new(alloc: Global, inbound: bool, lines: &'a [Neighbor]) -> Self {
         Seen {
-            by_sum: HashMap::new(alloc),
+            by_names: IndexMap::with_hasher(alloc, hashing_of(inbound, lines)),
             is_last_noted: false,
         }
     }
@@ -94,9 +103,8 @@ impl Seen {
     // Notes the last of so many lines, unless that was done.
     fn note_last(
         &mut self,
-        alloc: Global,
         inbound: bool,
-        lines: &[Neighbor],
+        lines: &'a [Neighbor],
         count: usize,
     ) -> Result<(), NoMemory> {
         if self.is_last_noted {
@@ -108,17 +116,16 @@ impl Seen {
         let Some(line) = lines.get(last) else {
             return Ok(());
         };
-        let sum = sum_of_line(inbound, line);
-        push_at(alloc, &mut self.by_sum, sum, last)
+        self.by_names.insert(names_on(inbound, line), last)?;
+        Ok(())
     }
 
     /// The number of an earlier line that names the same map and the same list. Most often that is the
     /// line before.
     pub fn known_number(
         &mut self,
-        alloc: Global,
         inbound: bool,
-        lines: &[Neighbor],
+        lines: &'a [Neighbor],
         numbers: &[usize],
         line: &Neighbor,
     ) -> Result<Option<usize>, NoMemory>
@@ -127,9 +134,12 @@ impl Seen {
         if let Some(number) = number_of_last(inbound, lines, numbers, line) {
             return Ok(Some(number));
         }
-        self.note_last(alloc, inbound, lines, numbers.len())?;
-        let places = items_at(&self.by_sum, sum_of_line(inbound, line));
-        let known = number_of_earlier(inbound, lines, numbers, line, places);
+        self.note_last(inbound, lines, numbers.len())?;
+        let names = names_on(inbound, line);
+        let known = match self.by_names.get(&names) {
+            Some(place) => number_if_same(inbound, lines, numbers, line, *place),
+            None => None,
+        };
         self.is_last_noted = known.is_some();
         Ok(known)
     }

@@ -8,6 +8,7 @@
 #![tactic(auto)]
 
 mod candidates;
+mod copies;
 mod graph;
 mod keys;
 mod labels;
@@ -18,6 +19,7 @@ mod starts;
 #[cfg(test)]
 mod tests;
 
+pub use copies::{acts_copy, names_copy};
 pub use labels::Labels;
 pub use route::{Act, Candidate, Route};
 pub use srp::Srp;

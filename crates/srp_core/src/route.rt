@@ -1,9 +1,10 @@
 //! Routes, acts and candidates.
 
 ghost use Rattle.std.specs.Prelude.{◌≡◌, IfOk};
+ghost use Rattle.srp_core.specs.Routes.{is_on};
 
 use base_kit::{List, NoMemory, NumSet};
-use route_maps::Plain;
+use route_maps::{Plain, map_copy};
 use std::alloc::Global;
 
 /// A route to the destination.
@@ -41,6 +42,13 @@ pub struct Candidate {
     pub route: Route,
 }
 
+// Whether the number is on the path.
+fn is_on(path: &[u32], number: u32) -> bool
+    ensures { result ≡ is_on number path.now }
+{
+    path.iter().any(|other| *other == number)
+}
+
 impl Route {
     ghost use Rattle.srp_core.specs.Routes.{is_on, path_of};
 
@@ -67,8 +75,27 @@ impl Route {
         ensures { result ≡ is_on number (path_of self.now) }
     {
         match self {
-            Route::Bgp { path, .. } => path.as_slice().contains(&number),
+            Route::Bgp { path, .. } => is_on(path.as_slice(), number),
             Route::Ospf { .. } => false,
+        }
+    }
+}
+
+impl Act {
+    /// The same act.
+    ///
+    /// # Errors
+    /// Out of memory.
+    pub fn copy(&self, alloc: Global) -> Result<Act, NoMemory>
+        ensures { IfOk result (λ act. act ≡ self.now) }
+    {
+        match self {
+            Act::Import { out, sends, into } => Ok(Act::Import {
+                out: map_copy(alloc, out)?,
+                sends: *sends,
+                into: map_copy(alloc, into)?,
+            }),
+            Act::Cost(cost) => Ok(Act::Cost(*cost)),
         }
     }
 }

@@ -4,10 +4,18 @@ ghost use Rattle.std.specs.Prelude.{◌≡◌, false, None, IfOk, filter, slice_
 ghost use Rattle.srp_core.specs.Without.{marked_down, is_left};
 ghost use Rattle.srp_without.specs.Left.{left_from};
 
-use crate::copies::start_copy;
 use base_kit::{Edge, List, NoMemory};
 use srp_core::Route;
 use std::alloc::Global;
+
+fn start_copy(alloc: Global, start: &Option<Route>) -> Result<Option<Route>, NoMemory>
+    ensures { IfOk result (λ copy. copy ≡ start.now) }
+{
+    match start {
+        Some(route) => Ok(Some(route.copy(alloc)?)),
+        None => Ok(None),
+    }
+}
 
 fn is_marked(marks: &[bool], place: usize) -> bool
     ensures { result ≡ slice_index_or marks.now place false }

@@ -8,7 +8,6 @@
 
 mod accepted;
 mod acts;
-mod copies;
 mod left;
 mod marks;
 mod problem;

@@ -5,11 +5,10 @@ ghost use Rattle.srp_core.specs.Without.{marked_down, IsWithout};
 ghost use Rattle.srp_without.specs.Accepting.{Serves};
 
 use crate::acts::Failures;
-use crate::copies::{acts_copy, names_copy};
 use crate::left::{edges_left, starts_left};
 use crate::marks::marks_left;
 use base_kit::{List, NoMemory};
-use srp_core::Srp;
+use srp_core::{Srp, acts_copy, names_copy};
 use std::alloc::Global;
 
 /// The problem that is left where the marked routers, by place, and the marked links, by number, are down. What

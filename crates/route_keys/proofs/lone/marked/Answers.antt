@@ -8,7 +8,7 @@ use Rattle.route_keys.proofs.lone.marked.Goals as goal
 pub loop-place-init : goal.loop-place-init
 loop-place-init c = record {
   inside = omega arith;
-  members = λ n. (let none : contains nat_eq c.new-set.result n ≡ false = search rules in none
+  members = λ n. (let none : contains nat_eq c.with_hasher-set.result n ≡ false = search rules in none
       ∙ sym (marked_none n c.args.marks.now c.args.numbers.now (length c.args.marks.now) (omega arith)));
 }
 

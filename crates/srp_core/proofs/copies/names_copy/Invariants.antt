@@ -1,5 +1,5 @@
 use Rattle.std.proofs.Common.{◌≡◌, ◌++◌, drop}
-use Rattle.canon_policy.proofs.problem.names_copy.Given as goal
+use Rattle.srp_core.proofs.copies.names_copy.Given as goal
 
 abbrev pub invariant-loop-name : goal.invariant-loop-name
 invariant-loop-name l = l.copies ++ drop l.name-index l.names ≡ l.names
