@@ -1,28 +1,40 @@
 //! The line of the counts of a class.
 
-ghost use Rattle.std.specs.Prelude.{◌≡◌, ◌++◌, IfOk, OnOk, string_bytes};
+ghost use Rattle.std.specs.Prelude.{◌≡◌, ◌++◌, IfOk, OnOk, OnErr, string_bytes};
 ghost use Rattle.group_report.specs.Reports.{class_words, network_words, group_words, count_line};
+ghost use Rattle.printed_words.specs.Grown.{HasGrown};
 
 use base_kit::NoMemory;
+use printed_words::put_digits;
 use std::alloc::{AllocError, Global};
-use std::fmt::Write;
 
 fn put_class_words(text: &mut String, class_number: usize) -> Result<(), AllocError>
-    ensures { OnOk result (string_bytes text.new ≡ string_bytes text.old ++ class_words class_number) }
+    ensures ok { OnOk result (string_bytes text.new ≡ string_bytes text.old ++ class_words class_number) }
+    ensures err { OnErr result (HasGrown (string_bytes text.old) (string_bytes text.new)) }
 {
-    write!(text, "class {class_number}: ")
+    text.push_str("class ")?;
+    put_digits(text, class_number as u64)?;
+    text.push_str(": ")
 }
 
 fn put_network_words(text: &mut String, routers: u32, links: u32) -> Result<(), AllocError>
-    ensures { OnOk result (string_bytes text.new ≡ string_bytes text.old ++ network_words routers links) }
+    ensures ok { OnOk result (string_bytes text.new ≡ string_bytes text.old ++ network_words routers links) }
+    ensures err { OnErr result (HasGrown (string_bytes text.old) (string_bytes text.new)) }
 {
-    write!(text, "{routers} routers {links} links ")
+    put_digits(text, u64::from(routers))?;
+    text.push_str(" routers ")?;
+    put_digits(text, u64::from(links))?;
+    text.push_str(" links ")
 }
 
 fn put_group_words(text: &mut String, groups: u32, links: usize) -> Result<(), AllocError>
-    ensures { OnOk result (string_bytes text.new ≡ string_bytes text.old ++ group_words groups links) }
+    ensures ok { OnOk result (string_bytes text.new ≡ string_bytes text.old ++ group_words groups links) }
+    ensures err { OnErr result (HasGrown (string_bytes text.old) (string_bytes text.new)) }
 {
-    write!(text, "{groups} groups {links} links\n")
+    put_digits(text, u64::from(groups))?;
+    text.push_str(" groups ")?;
+    put_digits(text, links as u64)?;
+    text.push_str(" links\n")
 }
 
 /// Appends the line of the counts of a class, which `count_line` gives.
@@ -34,7 +46,8 @@ pub fn put_count_line(
     groups: u32,
     links_after: usize,
 ) -> Result<(), AllocError>
-    ensures { OnOk result (string_bytes text.new ≡ string_bytes text.old ++ count_line class_number routers links_before groups links_after) }
+    ensures ok { OnOk result (string_bytes text.new ≡ string_bytes text.old ++ count_line class_number routers links_before groups links_after) }
+    ensures err { OnErr result (HasGrown (string_bytes text.old) (string_bytes text.new)) }
 {
     put_class_words(text, class_number)?;
     put_network_words(text, routers, links_before)?;

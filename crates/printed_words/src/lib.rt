@@ -1,13 +1,14 @@
 //! Numbers, addresses, prefixes, communities and names at the end of a text.
 //!
 //! Each call appends exactly the bytes that the definitions of printing give for a value, or runs out of
-//! memory. Crates that print lines put them together from these.
+//! memory: what was in the text before then stands as it was, and the first pieces may stand behind it.
+//! Crates that print lines put them together from these.
 #![tactic(auto)]
 
 mod values;
 mod words;
 
-pub use values::{put_address, put_community, put_prefix};
+pub use values::{put_address, put_community, put_digits, put_prefix};
 pub use words::{put_communities, put_name, put_names, put_number, put_numbers, put_word};
 
 #[cfg(test)]

@@ -1,39 +1,45 @@
 //! Words behind blanks.
 
-ghost use Rattle.std.specs.Prelude.{◌≡◌, ◌++◌, OnOk, string_bytes, map};
+ghost use Rattle.std.specs.Prelude.{◌≡◌, ◌++◌, OnOk, OnErr, string_bytes, map};
 ghost use Rattle.std.specs.Fmt.{decimal};
 ghost use Rattle.cfg_ast.specs.printing.Printed.{community_text};
+ghost use Rattle.printed_words.specs.Grown.{HasGrown};
 ghost use Rattle.printed_words.specs.Spaced.{spaced, spaced_words};
 
-use crate::values::put_community;
+use crate::values::{put_community, put_digits};
 use base_kit::{List, NumSet, Text};
 use std::alloc::AllocError;
-use std::fmt::Write;
 
 /// Appends a word behind a blank.
 pub fn put_word(text: &mut String, word: &str) -> Result<(), AllocError>
-    ensures { OnOk result (string_bytes text.new ≡ string_bytes text.old ++ spaced word.now) }
+    ensures ok { OnOk result (string_bytes text.new ≡ string_bytes text.old ++ spaced word.now) }
+    ensures err { OnErr result (HasGrown (string_bytes text.old) (string_bytes text.new)) }
 {
-    write!(text, " {word}")
+    text.push_str(" ")?;
+    text.push_str(word)
 }
 
 /// Appends a name behind a blank.
 pub fn put_name(text: &mut String, name: &Text) -> Result<(), AllocError>
-    ensures { OnOk result (string_bytes text.new ≡ string_bytes text.old ++ spaced name.now) }
+    ensures ok { OnOk result (string_bytes text.new ≡ string_bytes text.old ++ spaced name.now) }
+    ensures err { OnErr result (HasGrown (string_bytes text.old) (string_bytes text.new)) }
 {
     put_word(text, name.as_str())
 }
 
 /// Appends a number behind a blank.
 pub fn put_number(text: &mut String, number: u32) -> Result<(), AllocError>
-    ensures { OnOk result (string_bytes text.new ≡ string_bytes text.old ++ spaced (decimal number)) }
+    ensures ok { OnOk result (string_bytes text.new ≡ string_bytes text.old ++ spaced (decimal number)) }
+    ensures err { OnErr result (HasGrown (string_bytes text.old) (string_bytes text.new)) }
 {
-    write!(text, " {number}")
+    text.push_str(" ")?;
+    put_digits(text, u64::from(number))
 }
 
 /// Appends each name behind a blank.
 pub fn put_names(text: &mut String, names: &List<Text>) -> Result<(), AllocError>
-    ensures { OnOk result (string_bytes text.new ≡ string_bytes text.old ++ spaced_words names.now) }
+    ensures ok { OnOk result (string_bytes text.new ≡ string_bytes text.old ++ spaced_words names.now) }
+    ensures err { OnErr result (HasGrown (string_bytes text.old) (string_bytes text.new)) }
 {
     let items = names.as_slice();
     for name in items {
@@ -44,7 +50,8 @@ pub fn put_names(text: &mut String, names: &List<Text>) -> Result<(), AllocError
 
 /// Appends each number behind a blank.
 pub fn put_numbers(text: &mut String, numbers: &List<u32>) -> Result<(), AllocError>
-    ensures { OnOk result (string_bytes text.new ≡ string_bytes text.old ++ spaced_words (map decimal numbers.now)) }
+    ensures ok { OnOk result (string_bytes text.new ≡ string_bytes text.old ++ spaced_words (map decimal numbers.now)) }
+    ensures err { OnErr result (HasGrown (string_bytes text.old) (string_bytes text.new)) }
 {
     let items = numbers.as_slice();
     for number in items {
@@ -55,7 +62,8 @@ pub fn put_numbers(text: &mut String, numbers: &List<u32>) -> Result<(), AllocEr
 
 /// Appends each community behind a blank.
 pub fn put_communities(text: &mut String, comms: &NumSet) -> Result<(), AllocError>
-    ensures { OnOk result (string_bytes text.new ≡ string_bytes text.old ++ spaced_words (map community_text comms.now)) }
+    ensures ok { OnOk result (string_bytes text.new ≡ string_bytes text.old ++ spaced_words (map community_text comms.now)) }
+    ensures err { OnErr result (HasGrown (string_bytes text.old) (string_bytes text.new)) }
 {
     let items = comms.as_slice();
     for community in items {

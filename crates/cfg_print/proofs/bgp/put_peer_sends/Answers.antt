@@ -11,4 +11,4 @@ returns c =
     let second = string_bytes c.put_address.new.text in
     ends c.put-2.result old (codes " neighbor " ++ address_text c.args.addr) second (codes " send-community\n") (string_bytes c.put-2.new.text)
     (line_text (peer_sends_line c.args.addr)) (grown old (codes " neighbor ") first (address_text c.args.addr) second c.in_ok-put.ensures
-    c.in_ok-put_address.ensures) c.put-2.ensures (sends_text c.args.addr)
+    c.in_ok-put_address.ensures.ok) c.put-2.ensures (sends_text c.args.addr)

@@ -15,6 +15,6 @@ returns c =
     let two = grown old head (string_bytes c.put.new.text) name (string_bytes c.put_list_name.new.text) c.in_ok-put.ensures c.in_ok-put_list_name.ensures in
     let three = grown old (head ++ name) (string_bytes c.put_list_name.new.text) act (string_bytes c.put_act.new.text) two c.in_ok-put_act.ensures in
     let four = grown old (head ++ name ++ act) (string_bytes c.put_act.new.text) comms (string_bytes c.put_communities.new.text) three
-    c.in_ok-put_communities.ensures in
+    c.in_ok-put_communities.ensures.ok in
     ends c.put-2.result old (head ++ name ++ act ++ comms) (string_bytes c.put_communities.new.text) (codes "\n") (string_bytes c.put-2.new.text)
     (line_text (community_list_line c.args.name.now c.args.line.now)) four c.put-2.ensures (community_line_text c.args.name.now c.args.line.now)

@@ -11,4 +11,4 @@ returns c =
     let second = string_bytes c.put_name.new.text in
     ends c.put-2.result old (codes " no passive-interface" ++ spaced c.args.name.now) second (codes "\n") (string_bytes c.put-2.new.text)
     (line_text (not_passive_line c.args.name.now)) (grown old (codes " no passive-interface") first (spaced c.args.name.now) second c.in_ok-put.ensures
-    c.in_ok-put_name.ensures) c.put-2.ensures (refl)
+    c.in_ok-put_name.ensures.ok) c.put-2.ensures (refl)

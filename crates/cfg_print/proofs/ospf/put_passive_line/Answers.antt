@@ -11,4 +11,4 @@ returns c =
     let second = string_bytes c.put_name.new.text in
     ends c.put-2.result old (codes " passive-interface" ++ spaced c.args.name.now) second (codes "\n") (string_bytes c.put-2.new.text)
     (line_text (passive_line c.args.name.now)) (grown old (codes " passive-interface") first (spaced c.args.name.now) second c.in_ok-put.ensures
-    c.in_ok-put_name.ensures) c.put-2.ensures (refl)
+    c.in_ok-put_name.ensures.ok) c.put-2.ensures (refl)

@@ -14,4 +14,4 @@ returns c =
     ends c.put-2.result old (codes " set community" ++ spaced_words (map community_text c.args.comms.now)) second (codes " additive\n")
     (string_bytes c.put-2.new.text) (line_text (change_line (Append c.args.comms.now)))
     (grown old (codes " set community") first (spaced_words (map community_text c.args.comms.now)) second c.in_ok-put.ensures
-    c.in_ok-put_communities.ensures) c.put-2.ensures (append_text c.args.comms.now)
+    c.in_ok-put_communities.ensures.ok) c.put-2.ensures (append_text c.args.comms.now)

@@ -12,4 +12,4 @@ returns c =
     let second = string_bytes c.put_name.new.text in
     ends c.put-2.result old (codes " set comm-list" ++ spaced c.args.list.now.name) second (codes " delete\n") (string_bytes c.put-2.new.text)
     (line_text (delete_line c.args.list.now)) (grown old (codes " set comm-list") first (spaced c.args.list.now.name) second c.in_ok-put.ensures
-    c.in_ok-put_name.ensures) c.put-2.ensures (delete_text c.args.list.now)
+    c.in_ok-put_name.ensures.ok) c.put-2.ensures (delete_text c.args.list.now)

@@ -13,4 +13,4 @@ returns c =
     let second = string_bytes c.put_number.new.text in
     ends c.put-2.result old (codes " set local-preference" ++ spaced (decimal c.args.lp)) second (codes "\n") (string_bytes c.put-2.new.text)
     (line_text (lp_line c.args.lp)) (grown old (codes " set local-preference") first (spaced (decimal c.args.lp)) second c.in_ok-put.ensures
-    c.in_ok-put_number.ensures) c.put-2.ensures (lp_text c.args.lp)
+    c.in_ok-put_number.ensures.ok) c.put-2.ensures (lp_text c.args.lp)

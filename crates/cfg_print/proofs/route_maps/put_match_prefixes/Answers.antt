@@ -12,4 +12,4 @@ returns c =
     let second = string_bytes c.put_names.new.text in
     ends c.put-2.result old (codes " match ip address prefix-list" ++ spaced_words c.args.line.now.names) second (codes "\n") (string_bytes c.put-2.new.text)
     (line_text (match_prefixes_line c.args.line.now)) (grown old (codes " match ip address prefix-list") first (spaced_words c.args.line.now.names) second
-    c.in_ok-put.ensures c.in_ok-put_names.ensures) c.put-2.ensures (match_prefixes_text c.args.line.now)
+    c.in_ok-put.ensures c.in_ok-put_names.ensures.ok) c.put-2.ensures (match_prefixes_text c.args.line.now)

@@ -14,4 +14,4 @@ returns c =
     ends c.put-2.result old (codes " set as-path prepend" ++ spaced_words (map decimal c.args.prepend.now.numbers)) second (codes "\n")
     (string_bytes c.put-2.new.text) (line_text (prepend_line c.args.prepend.now))
     (grown old (codes " set as-path prepend") first (spaced_words (map decimal c.args.prepend.now.numbers)) second c.in_ok-put.ensures
-    c.in_ok-put_numbers.ensures) c.put-2.ensures (prepend_text c.args.prepend.now)
+    c.in_ok-put_numbers.ensures.ok) c.put-2.ensures (prepend_text c.args.prepend.now)

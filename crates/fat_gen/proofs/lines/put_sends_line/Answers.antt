@@ -8,6 +8,6 @@ returns c =
     let old = string_bytes c.args.text.now in
     let address = address_text c.args.address in
     let two = grown old (codes " neighbor ") (string_bytes c.push_str.new.self) address (string_bytes c.put_address.new.text) c.in_ok-push_str.ensures.bytes
-    c.in_ok-put_address.ensures in
+    c.in_ok-put_address.ensures.ok in
     ended c.put_sends_words.result old (codes " neighbor " ++ address) (string_bytes c.put_address.new.text) (codes " send-community\n")
     (string_bytes c.put_sends_words.new.text) two c.put_sends_words.ensures
