@@ -1,12 +1,12 @@
 -- Public: a reply where more is allowed.
 use Rattle.std.proofs.Common.{◌≡◌, ℕ, List, ◌++◌, sym, ap, ◌∙◌, subst, append_assoc, codes, Result, Ok, Err}
-use Rattle.std.specs.Prelude.{IfOk, String, string_bytes, decimal}
+use Rattle.std.specs.Prelude.{IfOk, OnErr, String, string_bytes, decimal}
 use Rattle.std.specs.declared.alloc.AllocError.{AllocError}
 use Rattle.std.specs.declared.alloc.Global.{Global}
 use Rattle.answer_kit.specs.declared.reply.Reply.{Reply}
 use Rattle.answer_kit.specs.declared.reply.Reply.TheVariants.{Output, Refusal, NotStable, Misuse, ReadFailed, SecondFailed, NoMemory}
 use Rattle.answer_kit.specs.Outcome.{Outcome, done, refused, not_stable}
-use Rattle.answer_kit.specs.Replies.{Answers, Only, IsRefusalFor}
+use Rattle.answer_kit.specs.Replies.{Answers, Only, IsRefusalOf}
 
 -- a reply that is allowed is so where more is allowed, with weaker causes
 pub answers_as : (reply : Reply) (A B : Outcome → Type 0) (first first' second second' : Type 0) → ((o : Outcome) → A o → B o) → (first → first')
@@ -27,19 +27,24 @@ answers_only reply allowed A first second a answers = answers_as reply (Only all
 
 -- a refusal for a reason that has these bytes
 pub refused_for : (reply : Reply) (reason : Result (String Global) AllocError) (bytes : List ℕ) → IfOk reason (λ text. string_bytes text ≡ bytes)
-    → Answers reply (IsRefusalFor reason) ⊥ ⊥ → Answers reply (Only (refused bytes)) ⊥ ⊥
-refused_for reply (Ok text) bytes has answers =
-    answers_as reply (IsRefusalFor (Ok text)) (Only (refused bytes)) ⊥ ⊥ ⊥ ⊥ (λ o is. is ∙ ap refused has) (λ e. e) (λ e. e) answers
-refused_for reply (Err e) bytes has answers =
-    answers_as reply (IsRefusalFor (Err e)) (Only (refused bytes)) ⊥ ⊥ ⊥ ⊥ (λ o none. absurd none) (λ e. e) (λ e. e) answers
+    → IfOk reason (λ text. IsRefusalOf (string_bytes text) reply) → OnErr reason (reply ≡ NoMemory) → Answers reply (Only (refused bytes)) ⊥ ⊥
+refused_for (Refusal why) (Ok text) bytes has told memory = ap refused (told ∙ has)
+refused_for (Output out) (Ok text) bytes has told memory = absurd told
+refused_for (NotStable why) (Ok text) bytes has told memory = absurd told
+refused_for Misuse (Ok text) bytes has told memory = absurd told
+refused_for ReadFailed (Ok text) bytes has told memory = absurd told
+refused_for SecondFailed (Ok text) bytes has told memory = absurd told
+refused_for NoMemory (Ok text) bytes has told memory = absurd told
+refused_for reply (Err e) bytes has told memory = subst (λ r. Answers r (Only (refused bytes)) ⊥ ⊥) (sym memory) tt
 
 -- a refusal for a line and the name of what is wrong there
 pub refused_at : (reply : Reply) (reason : Result (String Global) AllocError) (before : List ℕ) (line : ℕ) (name kind : List ℕ) → name ≡ kind
-    → IfOk reason (λ text. string_bytes text ≡ before ++ (decimal line ++ (codes ": " ++ name))) → Answers reply (IsRefusalFor reason) ⊥ ⊥ → Answers reply
-    (Only (refused (before ++ decimal line ++ codes ": " ++ kind))) ⊥ ⊥
-refused_at reply reason before line name kind is has answers =
+    → IfOk reason (λ text. string_bytes text ≡ before ++ (decimal line ++ (codes ": " ++ name)))
+    → IfOk reason (λ text. IsRefusalOf (string_bytes text) reply) → OnErr reason (reply ≡ NoMemory)
+    → Answers reply (Only (refused (before ++ decimal line ++ codes ": " ++ kind))) ⊥ ⊥
+refused_at reply reason before line name kind is has told memory =
     let same : before ++ (decimal line ++ (codes ": " ++ name)) ≡ before ++ decimal line ++ codes ": " ++ kind =
     sym (append_assoc (before ++ decimal line) (codes ": ") name ∙ append_assoc before (decimal line) (codes ": " ++ name)) ∙ ap
     (λ (n : List ℕ). before ++ decimal line ++ codes ": " ++ n) is in
     refused_for reply reason (before ++ decimal line ++ codes ": " ++ kind)
-    (subst (λ (bytes : List ℕ). IfOk reason (λ text. string_bytes text ≡ bytes)) same has) answers
+    (subst (λ (bytes : List ℕ). IfOk reason (λ text. string_bytes text ≡ bytes)) same has) told memory

@@ -1,7 +1,5 @@
 -- What a command has come to, and what is to be told of it.
-use Rattle.std.specs.Prelude.{◌≡◌, ℕ, List, String, string_bytes, Result, Ok, Err}
-use Rattle.std.specs.declared.alloc.AllocError.{AllocError}
-use Rattle.std.specs.declared.alloc.Global.{Global}
+use Rattle.std.specs.Prelude.{◌≡◌, ℕ, List}
 use Rattle.answer_kit.specs.declared.reply.Reply.{Reply}
 use Rattle.answer_kit.specs.declared.reply.Reply.TheVariants.{Output, Refusal, NotStable, Misuse, ReadFailed, SecondFailed, NoMemory}
 use Rattle.answer_kit.specs.Outcome.{Outcome, done, refused, not_stable, usage, read_fault, out_of_memory}
@@ -31,7 +29,7 @@ Answers ReadFailed IsAllowed first_rose second_rose = first_rose
 Answers SecondFailed IsAllowed first_rose second_rose = second_rose
 Answers NoMemory IsAllowed first_rose second_rose = Unit {0}
 
--- the refusal for a reason, where there was memory to write it
-abbrev pub IsRefusalFor : Result (String Global) AllocError → Outcome → Type 0
-IsRefusalFor (Ok text) o = o ≡ refused (string_bytes text)
-IsRefusalFor (Err e) o = ⊥
+-- the reply is the refusal for the reason of these bytes
+abbrev pub IsRefusalOf : List ℕ → Reply → Type 0
+IsRefusalOf bytes (Refusal reason) = reason.items ≡ bytes
+IsRefusalOf bytes _ = ⊥

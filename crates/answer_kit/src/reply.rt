@@ -1,6 +1,7 @@
 //! What a command has come to, before it is told.
 
-ghost use Rattle.answer_kit.specs.Replies.{Answers, IsRefusalFor};
+ghost use Rattle.std.specs.Prelude.{◌≡◌, IfOk, OnErr, string_bytes};
+ghost use Rattle.answer_kit.specs.Replies.{IsRefusalOf};
 
 use std::alloc::AllocError;
 
@@ -25,7 +26,8 @@ pub enum Reply {
 
 /// The refusal for this reason, or out of memory if the reason could not be written.
 pub fn refuse(reason: Result<String, AllocError>) -> Reply
-    ensures { Answers result (IsRefusalFor reason) ⊥ ⊥ }
+    ensures told { IfOk reason (λ text. IsRefusalOf (string_bytes text) result) }
+    ensures memory { OnErr reason (result ≡ Reply.NoMemory) }
 {
     match reason {
         Ok(text) => Reply::Refusal(text.into_bytes()),

@@ -5,6 +5,7 @@ pub mod Evened
 pub mod GroupLines
 pub mod Grouped
 pub mod Leaders
+pub mod LineFaults
 pub mod LinesLeft
 pub mod Made
 pub mod Movers

@@ -6,6 +6,7 @@ pub mod Forms
 pub mod InUse
 pub mod Kept
 pub mod Laws
+pub mod LineFaults
 pub mod Members
 pub mod Moves
 pub mod Outgoing

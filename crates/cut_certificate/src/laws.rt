@@ -1,6 +1,7 @@
 //! Laws of certificates. The functions do nothing: their contracts are the laws.
 
 ghost use Rattle.cut_certificate.specs.Laws.{ColorsAreAside, NotAdmissibleIsSo};
+ghost use Rattle.cut_certificate.specs.LineFaults.{FirstLineDecides};
 
 /// In graphs that differ only in the numbers of their colors, a text spells the same certificate, or has
 /// the same fault.
@@ -12,4 +13,10 @@ pub fn colors_are_aside()
 /// these groups are no admissible partition.
 pub fn not_admissible_is_so()
     ensures { NotAdmissibleIsSo }
+{}
+
+/// A text is refused with the fault of its first line that has one, or else because the line `end` is
+/// missing. Each line is judged by the lines before it.
+pub fn first_line_decides()
+    ensures { FirstLineDecides }
 {}

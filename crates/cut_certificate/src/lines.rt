@@ -20,11 +20,11 @@ use cfg_lex::next_word;
 use numbered_names::NamePlaces;
 use std::alloc::Global;
 
-fn with_head(standing: Standing, line: &[u8]) -> Result<Standing, Stop>
-    ensures { Steps result (with_saying [] (λ name. None) standing (head_form (words_of line.now))) }
+fn with_head(standing: Standing, line: &[u8]) -> Result<Standing, CutKind>
+    ensures { result ≡ with_saying [] (λ name. None) standing (head_form (words_of line.now)) }
 {
     if !is_head(line) {
-        return Err(Stop::Fault(CutKind::BadForm));
+        return Err(CutKind::BadForm);
     }
     standing.with_head()
 }
@@ -204,7 +204,7 @@ pub(crate) fn with_line(
         return Ok(standing);
     };
     if word == b"bonsai".as_slice() {
-        return with_head(standing, rest);
+        return Ok(with_head(standing, rest)?);
     }
     if word == b"split".as_slice() {
         return with_split(alloc, graph, outgoing, incoming, places, standing, rest);

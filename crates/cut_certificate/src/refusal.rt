@@ -68,6 +68,14 @@ pub(crate) enum Stop {
     Memory,
 }
 
+impl From<CutKind> for Stop {
+    ghost from_gives = { λ kind e. e ≡ stop.Fault kind };
+
+    fn from(kind: CutKind) -> Self {
+        Stop::Fault(kind)
+    }
+}
+
 impl From<NoMemory> for Stop {
     ghost from_gives = { λ _ e. e ≡ stop.Memory };
 

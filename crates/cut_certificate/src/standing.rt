@@ -100,8 +100,8 @@ impl Standing {
     }
 
     /// The head has been read too.
-    pub(crate) fn with_head(self) -> Result<Standing, Stop>
-        ensures { Steps result (with_head self self.stage) }
+    pub(crate) fn with_head(self) -> Result<Standing, CutKind>
+        ensures { result ≡ with_head self self.stage }
     {
         let Standing {
             stage,
@@ -118,7 +118,7 @@ impl Standing {
                 groups,
                 named,
             }),
-            _ => Err(Stop::Fault(CutKind::BadForm)),
+            _ => Err(CutKind::BadForm),
         }
     }
 

@@ -1,3 +1,4 @@
+mod Exact
 pub mod PathWords
 pub mod Judging
 pub mod Kept

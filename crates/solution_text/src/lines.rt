@@ -40,7 +40,7 @@ fn with_label(
     label: Option<Route>,
 ) -> Result<Said, SolRefusal>
     requires { router < length said.seen }
-    ensures { ReadsSolution result (with_label protocol line said router label) }
+    ensures { result ≡ with_label protocol line said router label }
 {
     if said.has_line(router) {
         return Err(SolRefusal::At {
@@ -58,7 +58,7 @@ fn with_label(
 }
 
 // The line that begins with this word, and goes on so.
-#[tactic(auto, unfolding(crate::specs::Forms::named_label_of))]
+#[tactic(auto, using(crate::proofs::Exact::exact_reads), unfolding(crate::specs::Forms::named_label_of))]
 fn with_saying(
     alloc: Global,
     protocol: Protocol,

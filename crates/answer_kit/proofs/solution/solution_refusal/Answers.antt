@@ -6,4 +6,4 @@ use Rattle.answer_kit.proofs.solution.solution_refusal.Goals as goal
 pub returns : goal.returns
 returns c =
     refused_at c.refuse.result c.format.result (codes "solution line ") c.args.line c.name_of_kind-name.result.now (name_of_solution_kind c.args.kind)
-    c.name_of_kind-name.ensures c.format.ensures.ok c.refuse.ensures
+    c.name_of_kind-name.ensures c.format.ensures.ok c.refuse.ensures.told c.refuse.ensures.memory
