@@ -36,18 +36,20 @@ use Rattle.answer_groups.proofs.Compressing.{told_of}
 -- ---- the canonical problem of a class
 
 pub canonical_for : (n : Network) (class : DestClass) (universe : List ℕ) (original problem : Problem)
-    → IsBuiltFor n class original → universe ≡ communities_of n → IsCanonicalProblem universe original problem
-    → IsProblem problem → ProblemsAlike original problem → AllByRecursion IsPrintableAct problem.acts
-    → AllByRecursion (IsActWithin universe) problem.acts → IsCanonicalFor n class problem
-canonical_for n class universe original problem built named canonical rules alike printable within = record {
+    → IsBuiltFor n class original → universe ≡ communities_of n → IsCanonicalProblem universe original problem → IsCanonicalFor n class problem
+canonical_for n class universe original problem built named canonical = record {
   original = original;
   built = built;
   canonical = subst (λ (set : List ℕ). IsCanonicalProblem set original problem) named canonical;
-  fits = record {
-    of = λ p has. problem_too n p original problem (built.of p has) rules alike;
-    printable = printable;
-    within = subst (λ (set : List ℕ). AllByRecursion (IsActWithin set) problem.acts) named within;
-  };
+}
+
+pub fits_for : (n : Network) (class : DestClass) (universe : List ℕ) (original problem : Problem)
+    → IsBuiltFor n class original → universe ≡ communities_of n → IsProblem problem → ProblemsAlike original problem
+    → AllByRecursion IsPrintableAct problem.acts → AllByRecursion (IsActWithin universe) problem.acts → FitsClass n class problem
+fits_for n class universe original problem built named rules alike printable within = record {
+  of = λ p has. problem_too n p original problem (built.of p has) rules alike;
+  printable = printable;
+  within = subst (λ (set : List ℕ). AllByRecursion (IsActWithin set) problem.acts) named within;
 }
 
 -- ---- the edge that is told

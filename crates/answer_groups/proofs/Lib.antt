@@ -1,4 +1,5 @@
 mod CanonLaws
+mod CanonLines
 pub mod Canonizing
 pub mod Compressing
 pub mod NamedCommunities

@@ -39,7 +39,7 @@ module _ (universe : List ℕ) (old P Q : Problem) (order : AreActsByFirstUse ol
   one_acts : P.acts ≡ Q.acts
   one_acts = ext_get_or (Cost 0) P.acts Q.acts (x.count ∙ sym y.count) (λ k h. one_act k (subst (λ (m : ℕ). k < m) x.count h))
 
-  one_canonical : P ≡ Q
+  pub one_canonical : P ≡ Q
   one_canonical =
       let protocols = x.protocol ∙ sym y.protocol in
       let names = x.names ∙ sym y.names in
@@ -87,7 +87,7 @@ module _ (universe : List ℕ) (problem : Problem) where
   in_middle (d ∷ before) e after = inr (in_middle before e after)
 
   -- no edge is without them where there is a canonical problem
-  not_both : (p : ℕ) (new : Problem) → IsFirstWithout universe problem p → IsCanonicalProblem universe problem new → ⊥
+  pub not_both : (p : ℕ) (new : Problem) → IsFirstWithout universe problem p → IsCanonicalProblem universe problem new → ⊥
   not_both p new x is =
       let has = contains_in problem.edges x.edge (subst (λ (es : List Edge). In es x.edge) (sym x.split) (in_middle x.before x.edge x.after)) in
       let some = is.used x.edge has in
@@ -124,7 +124,7 @@ module _ (n : Network) (class : DestClass) (has : Contains (classes_of n) class)
   one_with : (o p : Outcome) → IsWithCanon n class o → IsWithCanon n class p → o ≡ p
   one_with o p x y =
       one_unless_pool (IsTextOfPlan (IsCanonicalPlanOf n class))
-      (one_text (IsCanonicalPlanOf n class) (one_plan IsCanonicalFor n class (λ P is. is.fits.of) (canonical_is_one n class has) has))
+      (one_text (IsCanonicalPlanOf n class) (one_plan IsCanonicalFor n class (canonical_is_one n class has)))
       (pool_line n class) o p x.emission y.emission
 
   pub one_canon : (o p : Outcome) → IsCanonOf n class o → IsCanonOf n class p → o ≡ p

@@ -1,20 +1,20 @@
 -- A class has one plan, so `compress` has one outcome.
-use Rattle.std.proofs.Common.{◌≡◌, ℕ, Bool, true, false, List, Option, Some, None, sym, ◌∙◌, subst}
+use Rattle.std.proofs.Common.{◌≡◌, ℕ, Bool, true, false, List, [], ◌∷◌, Option, Some, None, refl, sym, ◌∙◌, subst}
 use Rattle.std.specs.Prelude.{Contains}
 use Rattle.base_kit.specs.Partition.{IsNumbered}
-use Rattle.base_kit.specs.Prefixes.{Prefix}
 use Rattle.cfg_ast.specs.declared.network.Network.{Network}
 use Rattle.cfg_ast.specs.declared.classes.DestClass.{DestClass}
 use Rattle.cfg_ast.specs.meaning.Classes.{classes_of}
 use Rattle.cfg_print.specs.Prints.{is_too_long}
 use Rattle.abstract_net.specs.declared.qlink.QLink.{QLink}
 use Rattle.abstract_net.specs.Links.{quotient_links}
-use Rattle.srp_core.specs.Problem.{Problem}
-use Rattle.srp_core.proofs.AlikeOf.{one_problem as problems_alike}
+use Rattle.srp_core.specs.Problem.{Problem, act_of}
+use Rattle.base_kit.specs.declared.act_graph.Edge.{Edge}
+use Rattle.srp_core.proofs.Steps.{alike_self}
+use Rattle.srp_core.specs.Alike.{AllEdgesAlike, ProblemsAlike}
 use Rattle.config_emit.specs.Plan.{Plan}
 use Rattle.config_emit.specs.Pool.{pool_line}
 use Rattle.srp_build.specs.Built.{IsBuiltFor}
-use Rattle.srp_core.specs.ProblemOf.{IsProblemOf}
 use Rattle.compress_laws.specs.Built.{IsPlanFor}
 use Rattle.answer_groups.specs.CompressText.{IsPlanOf, compressed_text, IsTextOr, IsTextOfPlan, IsUnlessPool, IsCompressOf}
 use Rattle.answer_kit.specs.Outcome.{Outcome}
@@ -40,15 +40,20 @@ built_is_one n class has P Q x y =
     let p = some_prefix n class has in
     one_problem n p.0 P Q (x.of p.0 p.1) (y.of p.0 p.1) x.order y.order (x.acts p.0 p.1) (y.acts p.0 p.1)
 
+edges_self : (P : Problem) (es : List Edge) → AllEdgesAlike P P es es
+edges_self P [] = tt
+edges_self P (e ∷ es) = (record { importer = refl; exporter = refl; link = refl; acts = alike_self (act_of P e) }, edges_self P es)
+
+problem_self : (P : Problem) → ProblemsAlike P P
+problem_self P = record { protocol = refl; names = refl; numbers = refl; init = refl; lone = refl; edges = edges_self P P.edges }
+
 -- where a class has one problem of a kind, it has one plan with such a problem
 pub one_plan : (F : Network → DestClass → Problem → Type 0) (n : Network) (class : DestClass)
-    → ((P : Problem) → F n class P → (p : Prefix) → Contains class.prefixes p → IsProblemOf n p P)
-    → ((P Q : Problem) → F n class P → F n class Q → P ≡ Q) → Contains (classes_of n) class
+    → ((P Q : Problem) → F n class P → F n class Q → P ≡ Q)
     → (e f : Plan) → IsPlanFor F n class e → IsPlanFor F n class f → e ≡ f
-one_plan F n class of one has e f x y =
-    let p = some_prefix n class has in
-    let alike = problems_alike n p.0 e.problem f.problem (of e.problem x.built p.0 p.1) (of f.problem y.built p.0 p.1) in
+one_plan F n class one e f x y =
     let problems = one e.problem f.problem x.built y.built in
+    let alike = subst (λ (Q : Problem). ProblemsAlike e.problem Q) problems (problem_self e.problem) in
     let groups = one_list_of_groups e.problem f.problem alike e.groups f.groups e.count f.count x.coarsest y.coarsest x.numbered y.numbered in
     let counts = one_count_of_groups f.groups e.count f.count (subst (λ (g : List ℕ). IsNumbered g e.count) groups x.numbered) y.numbered in
     let links = x.links ∙ (λ j. quotient_links (problems j).edges (groups j) (counts j)) ∙ sym y.links in
@@ -76,5 +81,5 @@ one_unless_pool IsAllowed one None o p x y = one o p x y
 pub one_compress : (n : Network) (class : DestClass) → Contains (classes_of n) class → (o p : Outcome) → IsCompressOf n class o → IsCompressOf n class p → o ≡ p
 one_compress n class has o p x y =
     one_unless_pool (IsTextOfPlan (IsPlanOf n class))
-    (one_text (IsPlanOf n class) (one_plan IsBuiltFor n class (λ P built. built.of) (built_is_one n class has) has))
+    (one_text (IsPlanOf n class) (one_plan IsBuiltFor n class (built_is_one n class has)))
     (pool_line n class) o p x y

@@ -12,17 +12,15 @@ use Rattle.config_emit.specs.Pool.{pool_line}
 use Rattle.srp_build.specs.Built.{IsBuiltFor}
 use Rattle.srp_core.specs.Problem.{Problem}
 use Rattle.compress_laws.specs.Built.{IsPlanFor}
-use Rattle.compress_laws.specs.Laws.{FitsClass}
 use Rattle.answer_kit.specs.Outcome.{Outcome, refused}
 use Rattle.answer_kit.specs.ClassNumbers.{class_at, IsOfClass}
 use Rattle.answer_groups.specs.CompressText.{IsTextOfPlan, IsUnlessPool}
 
--- The problem of a class with canonical acts, over the communities that the network names. It is a problem of the class too.
+-- The problem of a class with canonical acts, over the communities that the network names.
 pub record IsCanonicalFor (network : Network) (class : DestClass) (problem : Problem) : Type 0 where
   pub original : Problem
   pub built : IsBuiltFor network class original
   pub canonical : IsCanonicalProblem (communities_of network) original problem
-  pub fits : FitsClass network class problem
 
 -- the plan of a class with that problem
 abbrev pub IsCanonicalPlanOf : Network → DestClass → Plan → Type 0

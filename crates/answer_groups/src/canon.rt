@@ -6,6 +6,7 @@ ghost use Rattle.answer_groups.specs.CanonText.{no_canon, IsCanonicalFor, IsWith
 ghost use Rattle.answer_kit.specs.Outcome.{refused};
 ghost use Rattle.answer_kit.specs.Replies.{Answers, Only};
 ghost use Rattle.cfg_ast.specs.meaning.PolicyFaults.{communities_of};
+ghost use Rattle.compress_laws.specs.Laws.{FitsClass};
 ghost use Rattle.srp_build.specs.Built.{IsBuiltFor};
 
 use crate::emission::told;
@@ -41,6 +42,7 @@ fn canonical_of(
     requires universe { store.old.universe ≡ communities_of checked.now.network }
     ensures universe { store.new.universe ≡ communities_of checked.now.network }
     ensures problem { IfOk result (IsCanonicalFor checked.now.network class.now) }
+    ensures fits { IfOk result (FitsClass checked.now.network class.now) }
     ensures none { IfErr result (λ reply. Answers reply (IsWithoutCanon checked.now.network class.now) ⊥ ⊥) }
 {
     given_laws::given_is_well_formed();

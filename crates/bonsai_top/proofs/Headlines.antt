@@ -28,6 +28,7 @@ use Rattle.answer_kit.specs.declared.status.Status.TheVariants.{Done, WriteFault
 use Rattle.answer_kit.specs.ClassNumbers.{class_at, no_class, IsOfClass}
 use Rattle.answer_kit.specs.Kinds.{line_reason}
 use Rattle.bonsai_top.specs.Commands.{command_of, reads_first}
+use Rattle.answer_groups.specs.CanonLaws.{CanonicalFits}
 use Rattle.answer_groups.specs.CanonText.{no_canon, IsCanonicalFor, IsCanonicalPlanOf, IsCanonOf}
 use Rattle.answer_groups.specs.CompressText.{pool_overlap, IsPlanOf, IsTextOr, IsTextOfPlan, IsUnlessPool, IsCompressOf}
 use Rattle.bonsai_top.specs.Headline.{DoneIsHeadline, IsHeadline, IsCarriedDown, IsCarriedUp}
@@ -77,11 +78,12 @@ module _ (text : List ℕ) (n : Network) (read : IsRead text n) (number : ℕ) (
   compress_compresses law class has is =
       unless_pool (IsPlanOf n class) class (λ e allowed. law n class e ∣ (text, read.given) ∣₁ read.faultless has allowed) (pool_line n class) refl is
 
-  canon_compresses : FittingPlanCompresses → (class : DestClass) → Contains (classes_of n) class → IsCanonOf n class o → Compresses n class o.out
-  canon_compresses law class has (inl without) = absurd (no_refusal (no_canon without.problem without.first.edge) without.told)
-  canon_compresses law class has (inr canonical) =
+  canon_compresses : FittingPlanCompresses → CanonicalFits → (class : DestClass) → Contains (classes_of n) class → IsCanonOf n class o → Compresses n class o.out
+  canon_compresses law fits class has (inl without) = absurd (no_refusal (no_canon without.problem without.first.edge) without.told)
+  canon_compresses law fits class has (inr canonical) =
       unless_pool (IsCanonicalPlanOf n class) class
-      (λ e allowed. law n class e ∣ (text, read.given) ∣₁ read.faultless has (plan_as IsCanonicalFor FitsClass n class (λ problem is. is.fits) e allowed))
+      (λ e allowed. law n class e ∣ (text, read.given) ∣₁ read.faultless has (plan_as IsCanonicalFor FitsClass n class (λ problem is.
+      fits n class problem (record { given = ∣ (text, read.given) ∣₁; faultless = read.faultless; class_in = has; is = is })) e allowed))
       (pool_line n class) refl canonical.emission
 
   has_bytes : (IsOf : DestClass → Outcome → Type 0) → ((class : DestClass) → Contains (classes_of n) class → IsOf class o → Compresses n class o.out)
@@ -139,12 +141,12 @@ compress_is_headline law words contents text number o names told is status =
     (has_bytes text n h.read number o status (IsCompressOf n) (compress_compresses text n h.read number o status law) (class_at (classes_of n) number) refl
     h.answer)
 
-pub canon_is_headline : FittingPlanCompresses → DoneIsHeadline on_class.Canon
-canon_is_headline law words contents text number o names told is status =
+pub canon_is_headline : FittingPlanCompresses → CanonicalFits → DoneIsHeadline on_class.Canon
+canon_is_headline law fits words contents text number o names told is status =
     let h = of_outcome words contents (command.OnClass on_class.Canon number) text o status refl names told is in
     let n = h.network in
     is_headline text n number o h.reads
-    (has_bytes text n h.read number o status (IsCanonOf n) (canon_compresses text n h.read number o status law) (class_at (classes_of n) number) refl h.answer)
+    (has_bytes text n h.read number o status (IsCanonOf n) (canon_compresses text n h.read number o status law fits) (class_at (classes_of n) number) refl h.answer)
 
 -- a run that is done told an answer to its command, and all of its bytes
 record HasTold (named : Command) (text : List ℕ) (second : Option (List ℕ)) (before : List ℕ) (after : Option (List ℕ)) : Type 0 where
@@ -196,10 +198,10 @@ module _ (words : List (List ℕ)) (contents : List ℕ → Option (List ℕ)) (
   headline law number = headline_of on_class.Compress number (λ text n read o status is.
       has_bytes text n read number o status (IsCompressOf n) (compress_compresses text n read number o status law) (class_at (classes_of n) number) refl is)
 
-  pub canonical : FittingPlanCompresses → (number : ℕ) → command_of words ≡ Some (command.OnClass on_class.Canon number) → (text before : List ℕ)
+  pub canonical : FittingPlanCompresses → CanonicalFits → (number : ℕ) → command_of words ≡ Some (command.OnClass on_class.Canon number) → (text before : List ℕ)
       → contents (file_of words) ≡ Some text → out_old ≡ Some before → IsHeadline text number before out_new
-  canonical law number = headline_of on_class.Canon number (λ text n read o status is.
-      has_bytes text n read number o status (IsCanonOf n) (canon_compresses text n read number o status law) (class_at (classes_of n) number) refl is)
+  canonical law fits number = headline_of on_class.Canon number (λ text n read o status is.
+      has_bytes text n read number o status (IsCanonOf n) (canon_compresses text n read number o status law fits) (class_at (classes_of n) number) refl is)
 
   -- ---- fold and lift
 

@@ -8,7 +8,8 @@ use Rattle.bonsai_top.specs.declared.command.Command.{Command}
 use Rattle.answer_kit.specs.declared.reply.Reply.{Reply}
 use Rattle.answer_kit.specs.Outcome.{usage}
 use Rattle.bonsai_top.specs.Words.{file_of, second_of, short_number_of}
-use Rattle.bonsai_top.specs.Commands.{class_command, second_command, command_of, FirstRose, SecondRose}
+use Rattle.bonsai_top.specs.Commands.{class_command, second_command, command_of, FirstRose}
+use Rattle.bonsai_top.specs.Faults.{SecondFailed}
 use Rattle.bonsai_top.specs.Outcomes.{IsOutcomeOf, IsOutcomeAt, IsOutcome}
 use Rattle.answer_kit.specs.Replies.{Answers}
 
@@ -21,16 +22,18 @@ outcome_misuse words contents none = subst (λ (n : Option Command). IsOutcomeAt
 pub answers_words : (reply : Reply) (words : List (List ℕ)) (contents : List ℕ → Option (List ℕ)) (command : Command) (first second : List ℕ)
     (before now before' now' : ℕ)
     → command_of words ≡ Some command → first ≡ file_of words → second ≡ second_of words
-    → Answers reply (IsOutcomeOf command (contents first) (contents second)) (FirstRose (Some command) before now) (SecondRose (Some command) before' now')
-    → Answers reply (IsOutcome words contents) (FirstRose (command_of words) before now) (SecondRose (command_of words) before' now')
+    → Answers reply (IsOutcomeOf command (contents first) (contents second)) (FirstRose (Some command) before now)
+    (SecondFailed (Some command) (contents first) before' now')
+    → Answers reply (IsOutcome words contents) (FirstRose (command_of words) before now)
+    (SecondFailed (command_of words) (contents first) before' now')
 unfolding IsOutcome
 answers_words reply words contents command first second before now before' now' named file other answers =
     let at_file = subst (λ (n : List ℕ). Answers reply (IsOutcomeOf command (contents n) (contents second)) (FirstRose (Some command) before now)
-    (SecondRose (Some command) before' now')) file answers in
+    (SecondFailed (Some command) (contents first) before' now')) file answers in
     let at_both = subst (λ (n : List ℕ). Answers reply (IsOutcomeOf command (contents (file_of words)) (contents n)) (FirstRose (Some command) before now)
-    (SecondRose (Some command) before' now')) other at_file in
+    (SecondFailed (Some command) (contents first) before' now')) other at_file in
     subst (λ (n : Option Command). Answers reply (IsOutcomeAt n (contents (file_of words)) (contents (second_of words))) (FirstRose n before now)
-    (SecondRose n before' now')) (sym named) at_both
+    (SecondFailed n (contents first) before' now')) (sym named) at_both
 
 -- ---- a command and its files, word by word
 

@@ -2,6 +2,7 @@
 use Rattle.std.proofs.Common.{◌≡◌, ℕ, ◌<◌, ◌≤◌, List, length, subst, inl, inr, Option, Some, None, IfSome, codes}
 use Rattle.cfg_ast.specs.text.Reading.{reading_of}
 use Rattle.bonsai_top.specs.declared.command.Command.{Command}
+use Rattle.bonsai_top.specs.Faults.{IsBeforeSecond, LeadsToSecond}
 use Rattle.answer_kit.specs.declared.reply.Reply.{Reply}
 use Rattle.answer_kit.specs.Outcome.{Outcome, refused}
 use Rattle.bonsai_top.specs.Outcomes.{text_limit, IsOutcomeOfReading, IsOutcomeOfText, IsOutcomeOfFiles}
@@ -24,6 +25,12 @@ pub answers_text : (reply : Reply) (command : Command) (text : List ℕ) (told s
     → Answers reply (IsOutcomeOfFiles command told second) first_rose rose'
 answers_text reply command text told second first_rose rose rose' short same weaker answers =
     answers_as reply _ _ ⊥ first_rose rose rose' (outcome_text command text told second short same) (λ e. absurd e) weaker answers
+
+-- the text that was read leads to the second file, so the file does where it is told
+pub told_leads : (command : Command) (text : List ℕ) (told : Option (List ℕ)) → IfSome told (λ c. text ≡ c) → LeadsToSecond command text
+    → IfSome told (IsBeforeSecond (Some command))
+told_leads command text None same leads = tt
+told_leads command text (Some c) same leads = subst (LeadsToSecond command) same leads
 
 -- the file was too long
 pub answers_long : (reply : Reply) (command : Command) (told second : Option (List ℕ)) (first_rose second_rose : Type 0)

@@ -1,4 +1,5 @@
 pub mod Commands
+pub mod Faults
 pub mod Headline
 pub mod Meets
 pub mod OneOutcome

@@ -32,4 +32,5 @@ pub fn done_is_headline()
 {
     compress_laws::laws::plan_compresses();
     compress_laws::laws::fitting_plan_compresses();
+    answer_groups::laws::canonical_fits();
 }

@@ -5,6 +5,7 @@ ghost use Rattle.cfg_ast.specs.meaning.Classes.{classes_of};
 ghost use Rattle.cfg_ast.specs.text.Reading.{reading_of};
 ghost use Rattle.io_kit.specs.Ends.{Rose};
 ghost use Rattle.bonsai_top.specs.Commands.{reads_first, FirstRose, SecondRose};
+ghost use Rattle.bonsai_top.specs.Faults.{LeadsToSecond, ReadsSecondOf, SecondFailed};
 ghost use Rattle.answer_kit.specs.Networks.{text_limit, long_text};
 ghost use Rattle.answer_kit.specs.Outcome.{refused};
 ghost use Rattle.bonsai_top.specs.Outcomes.{IsOnNetwork, IsOnClass, IsOnSecond, IsAnswerTo, IsOutcomeOfReading, IsOutcomeOfFiles, IsOutcomeOf};
@@ -90,7 +91,7 @@ fn answer<S: Source>(
     files: &mut S,
 ) -> Reply
     ensures answers { Answers result (IsAnswerTo command checked.now.network (S.contents files.old second.now)) ⊥
-        (SecondRose (Some command) (S.faults files.old second.now) (S.faults files.new second.now)) }
+        (SecondRose (Some command) (S.faults files.old second.now) (S.faults files.new second.now) × ReadsSecondOf command checked.now.network) }
     ensures contents { S.contents files.new ≡ S.contents files.old }
     ensures later { (n : List ℕ) → S.faults files.old n ≤ S.faults files.new n }
 {
@@ -118,7 +119,7 @@ fn over_text<S: Source>(
 ) -> Reply
     requires { length text.now ≤ text_limit }
     ensures answers { Answers result (IsOutcomeOfReading command (S.contents files.old second.now) (reading_of text.now)) ⊥
-        (SecondRose (Some command) (S.faults files.old second.now) (S.faults files.new second.now)) }
+        (SecondRose (Some command) (S.faults files.old second.now) (S.faults files.new second.now) × LeadsToSecond command text.now) }
     ensures contents { S.contents files.new ≡ S.contents files.old }
     ensures later { (n : List ℕ) → S.faults files.old n ≤ S.faults files.new n }
 {
@@ -144,7 +145,7 @@ fn over_files<S: Source>(
 ) -> Reply
     ensures answers { Answers result (IsOutcomeOfFiles command (S.contents files.old first.now) (S.contents files.old second.now))
         (Rose (S.faults files.old first.now) (S.faults files.new first.now))
-        (SecondRose (Some command) (S.faults files.old second.now) (S.faults files.new second.now)) }
+        (SecondFailed (Some command) (S.contents files.old first.now) (S.faults files.old second.now) (S.faults files.new second.now)) }
     ensures contents { S.contents files.new ≡ S.contents files.old }
     ensures later { (n : List ℕ) → S.faults files.old n ≤ S.faults files.new n }
 {
@@ -166,7 +167,7 @@ pub fn work<S: Source>(
 ) -> Reply
     ensures answers { Answers result (IsOutcomeOf command (S.contents files.old first.now) (S.contents files.old second.now))
         (FirstRose (Some command) (S.faults files.old first.now) (S.faults files.new first.now))
-        (SecondRose (Some command) (S.faults files.old second.now) (S.faults files.new second.now)) }
+        (SecondFailed (Some command) (S.contents files.old first.now) (S.faults files.old second.now) (S.faults files.new second.now)) }
     ensures contents { S.contents files.new ≡ S.contents files.old }
     ensures later { (n : List ℕ) → S.faults files.old n ≤ S.faults files.new n }
     ensures unread { reads_first command ≡ false → files.new ≡ files.old }

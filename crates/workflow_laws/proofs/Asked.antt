@@ -2,7 +2,7 @@
 use Rattle.std.proofs.Common.{◌≡◌, sym, ◌∙◌, subst}
 use Rattle.cfg_ast.specs.declared.network.Network.{Network}
 use Rattle.compress_laws.specs.Compressed.{Compresses}
-use Rattle.compress_laws.specs.Laws.{BuiltFits, FittingPlanCompresses}
+use Rattle.compress_laws.specs.Laws.{FittingPlanCompresses}
 use Rattle.quotient_laws.specs.Questions.{GroupQuestionCarries, IsQuotiented, Picture, PicturesAgree, QuestionsCarry}
 use Rattle.reading_laws.specs.WellRead.{WhatIsReadIsWell}
 use Rattle.srp_core.specs.ProblemOf.{IsProblemOf}
@@ -10,8 +10,9 @@ use Rattle.answer_kit.proofs.OneClass.{some_prefix}
 use Rattle.workflow_laws.specs.Questions.{EachQuestionCarries, SmallAnswersForLarge}
 use Rattle.workflow_laws.proofs.Kept.{fitting_text, one_network}
 use Rattle.workflow_laws.proofs.SomeClass.{has_class}
+use Rattle.workflow_laws.proofs.Written.{WrittenFits}
 
-pub small_answers_for_large : WhatIsReadIsWell → BuiltFits → FittingPlanCompresses → PicturesAgree → QuestionsCarry → SmallAnswersForLarge
+pub small_answers_for_large : WhatIsReadIsWell → WrittenFits → FittingPlanCompresses → PicturesAgree → QuestionsCarry → SmallAnswersForLarge
 small_answers_for_large well fits compresses agree carry contents F G N K c =
     let n = c.of_large.network in
     let class = c.of_large.class in

@@ -11,7 +11,7 @@ use Rattle.class_laws.specs.Laws.{BuiltProblemIsOne}
 use Rattle.compress_laws.proofs.Alike.{problem_too}
 use Rattle.compress_laws.proofs.Texts.{short_text}
 use Rattle.compress_laws.specs.Built.{IsPlanFor}
-use Rattle.compress_laws.specs.Laws.{compressed_text, BuiltFits, FitsClass}
+use Rattle.compress_laws.specs.Laws.{compressed_text, FitsClass}
 use Rattle.config_emit.specs.Plan.{Plan, small}
 use Rattle.reading_laws.specs.WellRead.{WhatIsReadIsWell}
 use Rattle.srp_core.specs.ProblemOf.{IsProblemOf}
@@ -24,7 +24,7 @@ use Rattle.workflow_laws.specs.Setting.{Contents, IsCompressed, IsShort}
 use Rattle.workflow_laws.specs.Written.{FittingTextHasProblemOfGroups}
 use Rattle.workflow_laws.proofs.FewClasses.{short_of_class}
 use Rattle.workflow_laws.proofs.SomeClass.{has_class}
-use Rattle.workflow_laws.proofs.Written.{written_of, IsFittingText, groups_alike}
+use Rattle.workflow_laws.proofs.Written.{written_of, IsFittingText, groups_alike, WrittenFits}
 
 pub one_network : (n m : Network) → (let r : Result Network ReadRefusal = Ok n in r) ≡ Ok m → n ≡ m
 one_network n m e = cc
@@ -48,7 +48,7 @@ module _ (well : WhatIsReadIsWell) (contents : Contents) (F G : List ℕ) (N K :
   pub short_small : IsShort K
   short_small = short_of_class well c.small K c.of_small
 
-  module _ (fits : BuiltFits) where
+  module _ (fits : WrittenFits) where
     -- the text that was written
     pub fitting_text : IsFittingText c.of_large.network c.of_large.class c.small
     fitting_text =
@@ -66,7 +66,7 @@ module _ (well : WhatIsReadIsWell) (contents : Contents) (F G : List ℕ) (N K :
 pub record SmallLaws : Type 0 where
   pub well : WhatIsReadIsWell
   pub built : BuiltProblemIsOne
-  pub fits : BuiltFits
+  pub fits : WrittenFits
   pub has_problem : FittingTextHasProblemOfGroups
   pub is_quotient : QuotientIsQuotient
 

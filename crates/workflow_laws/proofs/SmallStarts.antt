@@ -20,7 +20,7 @@ use Rattle.cfg_ast.specs.meaning.Classes.{class_of, classes_of, initial_route, i
 use Rattle.cfg_ast.specs.printing.Bare.{bare, bare_prefix_list, bare_router}
 use Rattle.cfg_ast.specs.text.Reading.{reading_of}
 use Rattle.cfg_round_trip.specs.Laws.{PrintedIsReadBack}
-use Rattle.compress_laws.specs.Laws.{compressed_text, BuiltFits, FittingPlanFits}
+use Rattle.compress_laws.specs.Laws.{compressed_text, FittingPlanFits}
 use Rattle.config_emit.specs.Emitted.{emitted, emitted_router, notes_of}
 use Rattle.config_emit.specs.Laws.{EmittedCanBePrinted}
 use Rattle.config_emit.specs.Plan.{Plan, small}
@@ -42,7 +42,7 @@ use Rattle.workflow_laws.proofs.Kept.{one_network}
 use Rattle.workflow_laws.proofs.OneClass.{of_group, one_number, originates_class}
 use Rattle.workflow_laws.proofs.SmallClass.{among, has_number, joined, originated_here, same_class, set_in}
 use Rattle.workflow_laws.proofs.SomeClass.{has_class}
-use Rattle.workflow_laws.proofs.Written.{few_lines, written_of}
+use Rattle.workflow_laws.proofs.Written.{few_lines, written_of, WrittenFits}
 
 -- ---- 1. no prefix lists
 
@@ -149,10 +149,10 @@ only_one e bgp m same none Q below k c at = one_number m (λ p q i j. same_class
         let r = originator m p i in
         below p (contains_in e.class.prefixes p (originates_class e bgp r.0 (of_group e m r.0 same r.1) p r.2))
 
-pub class_is_kept : WhatIsReadIsWell → BuiltFits → FittingTextHasProblemOfGroups → FittingPlanFits → EmittedCanBePrinted → PrintedIsReadBack → QuotientIsQuotient
+pub class_is_kept : WhatIsReadIsWell → WrittenFits → FittingTextHasProblemOfGroups → FittingPlanFits → EmittedCanBePrinted → PrintedIsReadBack → QuotientIsQuotient
     → ClassIsKept
-class_is_kept well built_fits has_problem fits printed back is_quotient contents F large bytes N short holds x =
-    let w = written_of well built_fits contents F N short large holds bytes x in
+class_is_kept well written has_problem fits printed back is_quotient contents F large bytes N short holds x =
+    let w = written_of well written contents F N short large holds bytes x in
     let n = w.network in
     let read = well large n w.reads in
     let class = w.class in

@@ -31,8 +31,7 @@ module _ (canon : EachHasCanonical) (groups_of : EachHasGroups) (n : Network) (f
     (rules : IsProblem problem) (fits : FitsClass n class problem) where
   with_canon : HasCanonical (communities_of n) problem → SomeOf (IsCanonOf n class)
   with_canon h =
-      let is : IsCanonicalFor n class h.canonical = canonical_for n class (communities_of n) problem h.canonical built refl h.is h.rules h.alike h.printable
-      h.within in
+      let is : IsCanonicalFor n class h.canonical = canonical_for n class (communities_of n) problem h.canonical built refl h.is in
       let groups = groups_of h.canonical h.rules in
       let plan : Plan = record {
         network = n;

@@ -29,6 +29,7 @@ use Rattle.srp_core.specs.Alike.{ProblemsAlike}
 use Rattle.srp_core.specs.Problem.{Problem, IsProblem}
 use Rattle.srp_quotient.specs.Groups.{quotient_problem, small_of}
 use Rattle.srp_quotient.specs.Laws.{QuotientIsQuotient}
+use Rattle.answer_groups.specs.CanonLaws.{CanonicalFits}
 use Rattle.answer_groups.specs.CanonText.{no_canon, IsCanonicalFor, IsCanonicalPlanOf, IsCanonOf}
 use Rattle.answer_groups.specs.CompressText.{pool_overlap, IsCompressOf, IsTextOr, IsTextOfPlan, IsUnlessPool}
 use Rattle.answer_kit.specs.ClassNumbers.{class_at}
@@ -104,14 +105,19 @@ pub record IsFittingText (n : Network) (class : DestClass) (bytes : List ℕ) : 
   pub short : is_too_long (compressed_text plan) ≡ false
   pub text : bytes ≡ compressed_text plan
 
-module _ (fits : BuiltFits) (n : Network) (given : ∥ IsGiven n ∥₁) (faultless : IsFaultless n) (class : DestClass) (has : Contains (classes_of n) class)
+-- the problems of both commands fit the class
+pub record WrittenFits : Type 0 where
+  pub built : BuiltFits
+  pub canonical : CanonicalFits
+
+module _ (fits : WrittenFits) (n : Network) (given : ∥ IsGiven n ∥₁) (faultless : IsFaultless n) (class : DestClass) (has : Contains (classes_of n) class)
     (bytes : List ℕ) where
   by_compress : IsCompressOf n class (done bytes) → IsFittingText n class bytes
   by_compress is =
       let t = of_pool (IsPlanOf n class) n class bytes (pool_line n class) refl is in
       record {
         plan = t.plan;
-        is = plan_as IsBuiltFor FitsClass n class (λ problem built. fits n class problem given faultless has built) t.plan t.is;
+        is = plan_as IsBuiltFor FitsClass n class (λ problem built. fits.built n class problem given faultless has built) t.plan t.is;
         original = t.plan.problem;
         built = t.is.built;
         edges = refl;
@@ -126,7 +132,8 @@ module _ (fits : BuiltFits) (n : Network) (given : ∥ IsGiven n ∥₁) (faultl
       let t = of_pool (IsCanonicalPlanOf n class) n class bytes (pool_line n class) refl x.emission in
       record {
         plan = t.plan;
-        is = plan_as IsCanonicalFor FitsClass n class (λ problem canonical. canonical.fits) t.plan t.is;
+        is = plan_as IsCanonicalFor FitsClass n class (λ problem is.
+            fits.canonical n class problem (record { given = given; faultless = faultless; class_in = has; is = is })) t.plan t.is;
         original = t.is.built.original;
         built = t.is.built.built;
         edges = sym t.is.built.canonical.edges;
@@ -146,7 +153,7 @@ pub record IsWrittenOf (large : List ℕ) (N : ℕ) (bytes : List ℕ) : Type 0 
   pub class_is : class_at (classes_of network) N ≡ Some class
   pub text : IsFittingText network class bytes
 
-module _ (well : WhatIsReadIsWell) (fits : BuiltFits) (contents : Contents) (F : List ℕ) (N : ℕ) (short : IsShort N) (large : List ℕ)
+module _ (well : WhatIsReadIsWell) (fits : WrittenFits) (contents : Contents) (F : List ℕ) (N : ℕ) (short : IsShort N) (large : List ℕ)
     (holds : contents F ≡ Some large) (bytes : List ℕ) where
   pub written_of : IsWritten contents F N bytes → IsWrittenOf large N bytes
   written_of (inl x) =

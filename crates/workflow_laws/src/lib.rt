@@ -17,6 +17,7 @@ ghost use Rattle.workflow_laws.specs.Questions.{EachQuestionCarries, SmallAnswer
 ghost use Rattle.workflow_laws.specs.Written.{FittingTextHasProblemOfGroups};
 
 use answer_certificates::laws::verify_answer_is_one;
+use answer_groups::laws::canonical_fits;
 use answer_solutions::laws::{fold_is_read_back, lift_is_read_back};
 use bonsai_top::laws::outcome_is_one;
 use canon_policy::laws::each_has_canonical;
@@ -59,6 +60,7 @@ pub fn class_is_kept()
 {
     what_is_read_is_well();
     built_fits();
+    canonical_fits();
     fitting_text_has_problem_of_groups();
     fitting_plan_fits();
     emitted_can_be_printed();
@@ -74,6 +76,7 @@ pub fn check_below_is_lift()
     what_is_read_is_well();
     built_problem_is_one();
     built_fits();
+    canonical_fits();
     fitting_text_has_problem_of_groups();
     quotient_is_quotient();
 }
@@ -110,6 +113,7 @@ pub fn what_is_folded_is_stable_below()
     what_is_read_is_well();
     built_problem_is_one();
     built_fits();
+    canonical_fits();
     fitting_text_has_problem_of_groups();
     quotient_is_quotient();
     fold_is_read_back();
@@ -168,6 +172,7 @@ pub fn compressed_again()
     what_is_read_is_well();
     built_problem_is_one();
     built_fits();
+    canonical_fits();
     fitting_text_has_problem_of_groups();
     quotient_is_quotient();
     quotient_is_smallest();
@@ -180,6 +185,7 @@ pub fn small_answers_for_large()
 {
     what_is_read_is_well();
     built_fits();
+    canonical_fits();
     fitting_plan_compresses();
     pictures_agree();
     questions_carry();

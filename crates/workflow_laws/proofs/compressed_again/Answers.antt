@@ -7,7 +7,7 @@ returns c =
     let laws : SmallLaws = record {
       well = c.what_is_read_is_well.ensures;
       built = c.built_problem_is_one.ensures;
-      fits = c.built_fits.ensures;
+      fits = record { built = c.built_fits.ensures; canonical = c.canonical_fits.ensures };
       has_problem = c.fitting_text_has_problem_of_groups.ensures;
       is_quotient = c.quotient_is_quotient.ensures;
     } in

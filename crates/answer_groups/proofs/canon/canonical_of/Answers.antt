@@ -3,7 +3,7 @@ use Rattle.std.specs.List.{AllByRecursion}
 use Rattle.cfg_ast.specs.meaning.PolicyFaults.{communities_of}
 use Rattle.srp_core.specs.ActMaps.{IsActWithin}
 use Rattle.canon_policy.specs.CanonicalProblem.{AreCommunities, IsFirstWithout}
-use Rattle.answer_groups.proofs.Canonizing.{canonical_for, first_at, first_of, told_first}
+use Rattle.answer_groups.proofs.Canonizing.{canonical_for, fits_for, first_at, first_of, told_first}
 use Rattle.answer_groups.proofs.NamedCommunities.{named_communities}
 use Rattle.answer_groups.proofs.canon.canonical_of.Goals as goal
 
@@ -28,7 +28,13 @@ pub returns-in-Ok-clause-problem : goal.returns-in-Ok-clause-problem
 returns-in-Ok-clause-problem c =
     let of = c.in-Ok.ensures in
     canonical_for c.args.checked.now.network c.args.class.now c.args.store.now.universe c.args.problem c.in-Ok.canonical
-    c.requires.built c.requires.universe of.canonical c.count-known.ensures.rules of.alike of.printable of.within
+    c.requires.built c.requires.universe of.canonical
+
+pub returns-in-Ok-clause-fits : goal.returns-in-Ok-clause-fits
+returns-in-Ok-clause-fits c =
+    let of = c.in-Ok.ensures in
+    fits_for c.args.checked.now.network c.args.class.now c.args.store.now.universe c.args.problem c.in-Ok.canonical
+    c.requires.built c.requires.universe c.count-known.ensures.rules of.alike of.printable of.within
 
 pub returns-in-Err-NoCanon-clause-none : goal.returns-in-Err-NoCanon-clause-none
 returns-in-Err-NoCanon-clause-none c =

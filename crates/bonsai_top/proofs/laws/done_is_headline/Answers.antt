@@ -5,4 +5,4 @@ pub returns-clause-compress : goal.returns-clause-compress
 returns-clause-compress c = compress_is_headline c.plan_compresses.ensures
 
 pub returns-clause-canon : goal.returns-clause-canon
-returns-clause-canon c = canon_is_headline c.fitting_plan_compresses.ensures
+returns-clause-canon c = canon_is_headline c.fitting_plan_compresses.ensures c.canonical_fits.ensures

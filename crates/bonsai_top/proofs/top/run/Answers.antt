@@ -1,5 +1,6 @@
 use Rattle.std.proofs.Common.{◌≡◌, List, [], ◌∷◌, codes, false, refl, sym, inl, subst, Option}
-use Rattle.bonsai_top.specs.Commands.{FirstRose, SecondRose, command_of, is_read, reads_first}
+use Rattle.bonsai_top.specs.Commands.{FirstRose, command_of, is_read, reads_first}
+use Rattle.bonsai_top.specs.Faults.{SecondFailed}
 use Rattle.answer_kit.specs.Outcome.{usage}
 use Rattle.bonsai_top.specs.Outcomes.{IsOutcome}
 use Rattle.bonsai_top.specs.declared.command.Command.{Command}
@@ -21,7 +22,7 @@ returns-in-Some-clause-meets g c =
     let second = c.second_word-second.result.now in
     rw (← c.file_word-first.ensures, ← c.second_word-second.ensures)
     (run_meets (IsOutcome words contents) first second (FirstRose (command_of words) (old first) (new first))
-    (SecondRose (command_of words) (old second) (new second)) c.tell-in-Some.result
+    (SecondFailed (command_of words) (contents first) (old second) (new second)) c.tell-in-Some.result
     _ _ (g.O.Sink.faults c.args.out.now) (g.O.Sink.faults c.tell-in-Some.new.out) _ _ (g.E.Sink.faults c.args.err.now) (g.E.Sink.faults c.tell-in-Some.new.err)
     c.work-reply.result
     (answers_words c.work-reply.result words contents c.in-Some.command first second (old first) (new first) (old second) (new second)
@@ -40,7 +41,7 @@ pub returns-in-Some-clause-canonical : goal.returns-in-Some-clause-canonical
 returns-in-Some-clause-canonical g c = λ is file class number are short text before told taken.
     let words = bytes_of_words c.args.words.now in
     let contents = g.S.Source.contents c.args.files.now in
-    canonical words contents _ _ _ _ c.tell-in-Some.result _ _ _ _ _ _ _ _ (returns-in-Some-clause-meets g c) is c.fitting_plan_compresses.ensures number
+    canonical words contents _ _ _ _ c.tell-in-Some.result _ _ _ _ _ _ _ _ (returns-in-Some-clause-meets g c) is c.fitting_plan_compresses.ensures c.canonical_fits.ensures number
     (names_class words (codes "canon") file class number on_class.Canon are refl short) text before
     (first_told contents words (class ∷ []) (codes "canon") file text are told) taken
 
@@ -90,7 +91,7 @@ returns-in-None-clause-meets g c =
     let first = file_of words in
     let second = second_of words in
     meets (IsOutcome words contents) first second (FirstRose (command_of words) (files first) (files first))
-    (SecondRose (command_of words) (files second) (files second)) c.tell.result
+    (SecondFailed (command_of words) (contents first) (files second) (files second)) c.tell.result
     _ _ (g.O.Sink.faults c.args.out.now) (g.O.Sink.faults c.tell.new.out) _ _ (g.E.Sink.faults c.args.err.now) (g.E.Sink.faults c.tell.new.err)
     usage (inl (outcome_misuse words contents (sym c.in-None.ensures))) c.tell.ensures.tells
 

@@ -1,5 +1,5 @@
 use Rattle.std.proofs.Common.{Some}
-use Rattle.bonsai_top.specs.Commands.{SecondRose}
+use Rattle.bonsai_top.specs.Faults.{SecondFailed}
 use Rattle.bonsai_top.proofs.ByFiles.{answers_by_files, reads_unless_trial}
 use Rattle.bonsai_top.proofs.work.work.Goals as goal
 
@@ -11,4 +11,4 @@ returns-in_default-clause-answers g c =
     let first = c.args.first.now in
     let second = c.args.second.now in
     answers_by_files c.over_files.result c.args.command (contents first) (contents second) (old first) (new first)
-    (SecondRose (Some c.args.command) (old second) (new second)) (reads_unless_trial c.args.command c.in_default.not-Trial) c.over_files.ensures.answers
+    (SecondFailed (Some c.args.command) (contents first) (old second) (new second)) (reads_unless_trial c.args.command c.in_default.not-Trial) c.over_files.ensures.answers
