@@ -1,10 +1,11 @@
 //! Calls on decision diagrams over sets of communities, on their memory, and on the functions of
 //! sessions.
 
-ghost use Rattle.std.specs.Prelude.{◌≡◌, ◌≤◌, ◌<◌, [], ◌&&◌, ◌||◌, ℕ, List as Items, Ok, Option, Some, IfOk, OnErr, OnOk, length, not, true, false};
+ghost use Rattle.std.specs.Prelude.{◌≡◌, ◌≤◌, ◌<◌, [], ◌&&◌, ◌||◌, ℕ, List as Items, Ok, Option, Some, IfOk, MatchOption, OnErr, OnOk, length, not, true, false};
 ghost use Rattle.base_kit.specs.Sets.{has};
 ghost use Rattle.dd_cache.specs.Memory.{found, kept, memory, recalled};
-ghost use Rattle.dd_core.specs.Reach.{DependsOnOthers, IsSize, IsSupport};
+ghost use Rattle.dd_core.specs.Reach.{DependsOnNone, DependsOnOthers, IsFirstOf, IsSize, IsSupport};
+ghost use Rattle.dd_core.specs.Restrict.{IsPartOf, restricted};
 ghost use Rattle.dd_core.specs.Sets.{Grows, IsIteOfSets, Means, constant_at, fresh, has_others, remembered, value_of};
 ghost use Rattle.policy_dd.specs.Edge.{IsEdgeFn};
 ghost use Rattle.policy_dd.specs.Imports.{AreOneImport, DifferInPreference, HaveOnePreference};
@@ -126,6 +127,30 @@ pub fn value_on(store: &Store, a: NodeId, comms: &NumSet) -> bool
     ensures { result ≡ value_of store.now comms.now a }
 {
     store.eval(a, comms)
+}
+
+/// The diagram where some communities are put into each set, and then others are taken out.
+pub fn restriction(
+    store: &mut Store,
+    a: NodeId,
+    present: &NumSet,
+    absent: &NumSet,
+) -> Result<NodeId, NoMemory>
+    requires inside { a < length store.old.nodes }
+    requires present { IsPartOf store.old.universe present.now }
+    requires absent { IsPartOf store.old.universe absent.now }
+    ensures grows { Grows store.old store.new }
+    ensures value { IfOk result (λ node. Means store.new node (λ set. value_of store.old (restricted present.now absent.now set) a)) }
+{
+    store.restrict(a, present, absent)
+}
+
+/// The least community on which a diagram depends.
+pub fn first_of(store: &Store, a: NodeId) -> Option<Community>
+    requires { a < length store.now.nodes }
+    ensures { MatchOption result (DependsOnNone store.now a) (λ c. IsFirstOf store.now a c.0) }
+{
+    store.first(a)
 }
 
 /// The communities on which a diagram depends.

@@ -1,9 +1,5 @@
-//! How another program uses the top call: the words, files and outputs of its own, and the status.
-//!
-//! For each of the two calls there is a function here that makes it in the form that is promised, with all
-//! that it promises. If the form changes, this crate does not compile. `library_uses` and `analysis_uses` do
-//! the same for the calls below.
-#![tactic(auto)]
+//! The top call with words, files and outputs of one's own, and the exit status: each call with all that it
+//! promises.
 
 pub mod memory;
 
@@ -11,7 +7,8 @@ ghost use Rattle.std.specs.Prelude.{◌≡◌, ◌≤◌, ◌⊎◌, ℕ, List, 
 ghost use Rattle.answer_kit.specs.Outcome.{code_of};
 ghost use Rattle.io_kit.specs.Ends.{Rose};
 ghost use Rattle.bonsai_top.specs.Words.{bytes_of_words, file_of, second_of, short_number_of};
-ghost use Rattle.bonsai_top.specs.Commands.{command_of, is_read, reads_first, FirstRose, SecondRose};
+ghost use Rattle.bonsai_top.specs.Commands.{command_of, is_read, reads_first, FirstRose};
+ghost use Rattle.bonsai_top.specs.Faults.{SecondFailed};
 ghost use Rattle.bonsai_top.specs.Outcomes.{IsOutcome};
 ghost use Rattle.bonsai_top.specs.Meets.{RunMeets};
 ghost use Rattle.bonsai_top.specs.Headline.{IsHeadline, IsCarriedDown, IsCarriedUp};
@@ -30,7 +27,7 @@ pub fn answered<S: Source, O: Sink, E: Sink>(
 ) -> Status
     ensures meets { RunMeets (IsOutcome (bytes_of_words words.now) (S.contents files.old)) (file_of (bytes_of_words words.now)) (second_of (bytes_of_words words.now))
         (FirstRose (command_of (bytes_of_words words.now)) (S.faults files.old (file_of (bytes_of_words words.now))) (S.faults files.new (file_of (bytes_of_words words.now))))
-        (SecondRose (command_of (bytes_of_words words.now)) (S.faults files.old (second_of (bytes_of_words words.now))) (S.faults files.new (second_of (bytes_of_words words.now)))) result
+        (SecondFailed (command_of (bytes_of_words words.now)) (S.contents files.old (file_of (bytes_of_words words.now))) (S.faults files.old (second_of (bytes_of_words words.now))) (S.faults files.new (second_of (bytes_of_words words.now)))) result
         (O.taken out.old) (O.taken out.new) (O.faults out.old) (O.faults out.new) (E.taken err.old) (E.taken err.new) (E.faults err.old) (E.faults err.new) }
     ensures usage { command_of (bytes_of_words words.now) ≡ None → (result ≡ Status.Usage) ⊎ (result ≡ Status.WriteFault) }
     ensures usage_only { result ≡ Status.Usage → command_of (bytes_of_words words.now) ≡ None }
@@ -51,7 +48,7 @@ pub fn answered<S: Source, O: Sink, E: Sink>(
     ensures err_later { E.faults err.old ≤ E.faults err.new }
     ensures read_fault { result ≡ Status.ReadFault → IsSome (command_of (bytes_of_words words.now))
         × (FirstRose (command_of (bytes_of_words words.now)) (S.faults files.old (file_of (bytes_of_words words.now))) (S.faults files.new (file_of (bytes_of_words words.now)))
-        ⊎ SecondRose (command_of (bytes_of_words words.now)) (S.faults files.old (second_of (bytes_of_words words.now))) (S.faults files.new (second_of (bytes_of_words words.now)))) }
+        ⊎ SecondFailed (command_of (bytes_of_words words.now)) (S.contents files.old (file_of (bytes_of_words words.now))) (S.faults files.old (second_of (bytes_of_words words.now))) (S.faults files.new (second_of (bytes_of_words words.now)))) }
     ensures write_fault { result ≡ Status.WriteFault → Rose (E.faults err.old) (E.faults err.new) ⊎ Rose (O.faults out.old) (O.faults out.new) }
 {
     run(alloc, words, files, out, err)

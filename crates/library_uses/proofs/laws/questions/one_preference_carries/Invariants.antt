@@ -1,6 +1,6 @@
 use Rattle.std.specs.Prelude.{Some}
-use Rattle.law_uses.specs.Asked.{has_one_preference}
-use Rattle.law_uses.proofs.questions.one_preference_carries.Given as goal
+use Rattle.library_uses.specs.Asked.{has_one_preference}
+use Rattle.library_uses.proofs.laws.questions.one_preference_carries.Given as goal
 
 abbrev pub ghosts-each_question_carries : goal.ghosts-each_question_carries
 ghosts-each_question_carries a = record {

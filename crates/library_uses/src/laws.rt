@@ -1,10 +1,9 @@
-//! How a crate uses laws: by calling them.
+//! How laws are used: by calling them.
 //!
 //! Each function here gets its promise from calls of laws, with no proof of its own. The laws of
 //! `srp_core` speak of routing problems: a caller reads a problem once, as by `count`, so that its rules
 //! are known. Those of `given_laws` and `cfg_round_trip` speak of networks that a text gives. `questions` asks
 //! what a caller wants to know of the small network.
-#![tactic(auto)]
 
 pub mod questions;
 pub mod texts;
@@ -16,7 +15,8 @@ ghost use Rattle.srp_core.specs.Lifts.{IsFold};
 ghost use Rattle.srp_core.specs.Quotient.{IsAdmissible, IsQuotient, Corresponds};
 ghost use Rattle.srp_core.specs.Stability.{IsStable};
 
-use srp_core::{Labels, Srp, laws};
+use srp_core::laws::{folds, to_quotient};
+use srp_core::{Labels, Srp};
 
 /// A stable solution has a corresponding one in the quotient.
 pub fn has_solution_below(srp: &Srp, small: &Srp, groups: &[u32], labels: &Labels)
@@ -27,7 +27,7 @@ pub fn has_solution_below(srp: &Srp, small: &Srp, groups: &[u32], labels: &Label
 {
     let _known = srp.count();
     let _also_known = small.count();
-    laws::to_quotient();
+    to_quotient();
 }
 
 /// Labels that are folded by the rule correspond to those that they come from.
@@ -47,5 +47,5 @@ pub fn corresponds_when_folded(
 {
     let _known = srp.count();
     let _also_known = small.count();
-    laws::folds();
+    folds();
 }

@@ -1,6 +1,6 @@
 //! How a question of one's own is carried from the small network to the large one.
 
-ghost use Rattle.law_uses.specs.Asked.{has_one_preference};
+ghost use Rattle.library_uses.specs.Asked.{has_one_preference};
 ghost use Rattle.workflow_laws.specs.Questions.{EachQuestionCarries};
 
 use std::marker::Brand;
