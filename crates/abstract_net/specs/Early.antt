@@ -11,13 +11,13 @@ abbrev pub link_of : Step → ℕ
 link_of step = step.link
 
 -- one of the steps is of the kind of that step, on a link that is no higher
-abbrev pub HasEarlier : List Step → Step → Type 0
-HasEarlier steps step = (x : Step) × Contains steps x × (same_kind x step ≡ true) × (x.link ≤ step.link)
+abbrev pub IsPreceded : List Step → Step → Type 0
+IsPreceded steps step = (x : Step) × Contains steps x × (same_kind x step ≡ true) × (x.link ≤ step.link)
 
 -- the step came last, if there is one, or was left out for one of its kind on a link that is no higher
 abbrev pub PutsEarly : List Step → List Step → Option Step → Type 0
 PutsEarly old new None = new ≡ old
-PutsEarly old new (Some step) = (new ≡ old ++ step ∷ []) ⊎ ((new ≡ old) × HasEarlier old step)
+PutsEarly old new (Some step) = (new ≡ old ++ step ∷ []) ⊎ ((new ≡ old) × IsPreceded old step)
 
 -- the steps of the edges from a place on
 abbrev pub steps_from : List Edge → List ℕ → ℕ → List Step

@@ -4,7 +4,7 @@ ghost use Rattle.std.specs.Prelude.{◌≡◌, ℕ, ◌<◌, ◌^◌, ◌++◌, 
 ghost use Rattle.std.specs.List.{cons_option};
 ghost use Rattle.base_kit.specs.Partition.{IsNumbered};
 ghost use Rattle.by_key.specs.ByKey.{by_key};
-ghost use Rattle.abstract_net.specs.Early.{link_of, HasEarlier, PutsEarly, AreEarly};
+ghost use Rattle.abstract_net.specs.Early.{link_of, IsPreceded, PutsEarly, AreEarly};
 ghost use Rattle.abstract_net.specs.GroupSteps.{step_of, low_of, high_of, same_kind, first_kinds, none_met, first_steps, sorted_steps};
 ghost use Rattle.abstract_net.specs.Met.{is_met, AreMet, HasKind};
 
@@ -47,7 +47,7 @@ fn step_of(p: &Partition, place: u32, edge: &Edge) -> Option<Step>
 }
 
 // The groups of a step, the lower one first, and its direction and act.
-type Kind = ((u32, u32), (bool, u32));
+type StepWay = ((u32, u32), (bool, u32));
 
 fn is_same_kind(a: &Step, b: &Step) -> bool
     ensures { result ≡ same_kind a.now b.now }
@@ -72,7 +72,7 @@ fn is_early(steps: &[Step], step: &Step) -> bool
 
 // Puts a step last, if none of its kind was met yet.
 fn push_first(
-    met: &mut HashSet<Kind>,
+    met: &mut HashSet<StepWay>,
     steps: &mut Vec<Step>,
     step: Option<Step>,
 ) -> Result<(), NoMemory>
@@ -94,7 +94,7 @@ fn push_first(
 
 // Whether one of the steps is of the kind of this one, on a link that is no higher.
 fn has_earlier(steps: &[Step], step: &Step) -> bool
-    ensures { result ≡ true → HasEarlier steps.now step.now }
+    ensures { result ≡ true → IsPreceded steps.now step.now }
 {
     for place in 0..steps.len() {
         if is_same_kind(&steps[place], step) && steps[place].link <= step.link {
@@ -149,7 +149,7 @@ fn sort_by_link(steps: &mut Vec<Step>) -> Result<(), NoMemory>
 fn first_of_each(alloc: Global, steps: &[Step]) -> Result<Vec<Step>, NoMemory>
     ensures { IfOk result (λ found. found.items ≡ first_kinds none_met steps.now) }
 {
-    let mut met: HashSet<Kind> = HashSet::new(alloc);
+    let mut met: HashSet<StepWay> = HashSet::new(alloc);
     let mut found = Vec::new(alloc);
     for step in steps {
         push_first(&mut met, &mut found, Some(*step))?;
@@ -165,7 +165,7 @@ fn first_steps_of_all(alloc: Global, edges: &[Edge], p: &Partition) -> Result<Ve
     ensures { IfOk result (λ steps. steps.items ≡ first_steps edges.now p.now) }
 {
     let places = places_by_link(alloc, edges)?;
-    let mut met: HashSet<Kind> = HashSet::new(alloc);
+    let mut met: HashSet<StepWay> = HashSet::new(alloc);
     let mut steps = Vec::new(alloc);
     for place in &places {
         let step = step_of(p, *place, &edges[*place as usize]);

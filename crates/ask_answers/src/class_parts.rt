@@ -50,6 +50,7 @@ fn left_of(
     ensures { IfOk result (λ left. IsWithout known.now.whole (marked_down routers.now links.now) (unwrap_or left known.now.whole)) }
 {
     let whole = &known.whole;
+    // This brings into view that the problem fits.
     let _counted = whole.count();
     if !is_any_down(routers, links) {
         return Ok(None);

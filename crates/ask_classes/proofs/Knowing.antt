@@ -19,7 +19,7 @@ use Rattle.solution_search.specs.declared.board.Tie.{Tie}
 use Rattle.solution_answers.specs.Verdicts.{IsAnswer}
 use Rattle.ask_classes.specs.declared.asking.Asking.{Asking}
 use Rattle.ask_classes.specs.Failing.{Loss, IsTried}
-use Rattle.ask_classes.specs.Known.{keeps_verdict, tie_at, tie_told, HasSpareLinks}
+use Rattle.ask_classes.specs.Known.{keeps_verdict, tie_at, tie_beside, HasSpareLinks}
 use Rattle.ask_classes.specs.Scenes.{IsAsking}
 use Rattle.ask_classes.proofs.Losses.{asked_of_left}
 
@@ -103,7 +103,7 @@ kept_for names down asks NoSolution e = absurd cc
 
 -- ---- the tie
 
-no_told : (verdict : Verdict) (tied : Option ℕ) → verdict ≡ No → tie_told verdict tied ≡ None
+no_told : (verdict : Verdict) (tied : Option ℕ) → verdict ≡ No → tie_beside verdict tied ≡ None
 no_told Yes tied is = absurd cc
 no_told No tied is = refl
 no_told NoSolution tied is = absurd cc
@@ -112,7 +112,7 @@ none_at : (tied : Option ℕ) → tie_at tied ≡ None → tied ≡ None
 none_at None none = refl
 none_at (Some router) none = absurd cc
 
-none_told : (verdict : Verdict) (tied : Option ℕ) → verdict ≢ No → tie_told verdict tied ≡ None → tied ≡ None
+none_told : (verdict : Verdict) (tied : Option ℕ) → verdict ≢ No → tie_beside verdict tied ≡ None → tied ≡ None
 none_told Yes tied other none = none_at tied none
 none_told No tied other none = absurd (other refl)
 none_told NoSolution tied other none = none_at tied none
@@ -121,7 +121,7 @@ at_inside : (tied : Option ℕ) (bound : ℕ) → IfSome tied (λ u. u < bound) 
 at_inside None bound inside = tt
 at_inside (Some router) bound inside = inside
 
-told_inside : (verdict : Verdict) (tied : Option ℕ) (bound : ℕ) → IfSome tied (λ u. u < bound) → IfSome (tie_told verdict tied) (λ (t : Tie). t.router < bound)
+told_inside : (verdict : Verdict) (tied : Option ℕ) (bound : ℕ) → IfSome tied (λ u. u < bound) → IfSome (tie_beside verdict tied) (λ (t : Tie). t.router < bound)
 told_inside Yes tied bound inside = at_inside tied bound inside
 told_inside No tied bound inside = tt
 told_inside NoSolution tied bound inside = at_inside tied bound inside
@@ -135,7 +135,7 @@ pub is_known : SpareLinksKeepVerdicts → (asking : Asking) → IsAsking asking 
     IsVerdict asking.problems.now.left.now (IsTrueIn (question_left asking) asking.problems.now.left.now) verdict → (marks : List Bool) (tied : Option ℕ) →
     HasSpareLinks asking.problems.now.left.now marks tied → (place : ℕ) (loss : Loss) → place < length asking.scene.now.links.now →
     slice_index_or marks place false ≡ true → loss.down ≡ marked_down asking.scene.now.routers_down.now (slice_set asking.scene.now.links_down.now place true) →
-    IsTried asking.problems.now.whole.now asking.asks.now loss (record { verdict = verdict; tied = tie_told verdict tied })
+    IsTried asking.problems.now.whole.now asking.asks.now loss (record { verdict = verdict; tied = tie_beside verdict tied })
 is_known law asking is verdict keeps holds marks tied found place loss less marked down_is =
     let whole = asking.problems.now.whole.now in
     let left = asking.problems.now.left.now in
@@ -146,7 +146,7 @@ is_known law asking is verdict keeps holds marks tied found place loss less mark
     let down = marked_down routers links in
     let as_many = is.scene.each_link in
     let is_asked = asked_of_left whole left down down asks (question_left asking) is.scene.left refl in
-    let told = tie_told verdict tied in
+    let told = tie_beside verdict tied in
     let stays = law left found.labels marks tied place (question_left asking) verdict found.are marked is_asked (kept_for whole.names down asks verdict keeps) holds in
     let without = also_without whole left stays.other routers links place (omega arith) is.scene.left stays.without in
     let many : count stays.other ≡ count left = ap (λ (ns : List ℕ). length ns) stays.without.numbers in

@@ -40,11 +40,11 @@ abbrev pub tie_at : Option ℕ → Option Tie
 tie_at None = None
 tie_at (Some router) = Some (record { router = router; by = Communities })
 
--- no tie is told with a no
-abbrev pub tie_told : Verdict → Option ℕ → Option Tie
-tie_told Yes tied = tie_at tied
-tie_told No tied = None
-tie_told NoSolution tied = tie_at tied
+-- a no has no tie beside it
+abbrev pub tie_beside : Verdict → Option ℕ → Option Tie
+tie_beside Yes tied = tie_at tied
+tie_beside No tied = None
+tie_beside NoSolution tied = tie_at tied
 
 -- the answer that is known
 abbrev pub trial_known : Known → Trial

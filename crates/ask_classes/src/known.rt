@@ -4,7 +4,7 @@ ghost use Rattle.std.specs.Prelude.{◌≡◌, [], IfOk, IfSome, None};
 ghost use Rattle.srp_core.specs.Without.{marked_down};
 ghost use Rattle.srp_questions.specs.Answers.{IsVerdict};
 ghost use Rattle.srp_questions.specs.Questions.{IsTrueIn};
-ghost use Rattle.ask_classes.specs.Known.{keeps_verdict, is_of_labels, tie_told, trial_known, HasSpareLinks, KnowsTrials};
+ghost use Rattle.ask_classes.specs.Known.{keeps_verdict, is_of_labels, tie_beside, trial_known, HasSpareLinks, KnowsTrials};
 ghost use Rattle.ask_classes.specs.Scenes.{IsAsking};
 ghost use Rattle.ask_classes.specs.Tries.{trial_of};
 ghost use Rattle.ask_names.specs.Routers.{question_for};
@@ -73,9 +73,9 @@ fn is_kept(asks: &AskedOf, verdict: Verdict) -> bool
     }
 }
 
-// The tie that is told with the verdict, where routes tie at that router.
-fn tie_told(verdict: Verdict, tied: Option<u32>) -> Option<Tie>
-    ensures { result ≡ tie_told verdict tied }
+// The tie that stands beside the verdict, where routes tie at that router.
+fn tie_beside(verdict: Verdict, tied: Option<u32>) -> Option<Tie>
+    ensures { result ≡ tie_beside verdict tied }
 {
     match verdict {
         Verdict::No => None,
@@ -122,7 +122,7 @@ impl<'a> Visitor for Marker<'a> {
     }
 }
 
-// Marks the links that are spare under a solution, if they can be told.
+// Marks the links that are spare under a solution, if they can be found.
 fn spare_found(alloc: Global, srp: &Srp, links: usize) -> Result<Option<SpareLinks>, NoMemory>
     ensures { IfOk result (λ found. IfSome found (λ spare. HasSpareLinks srp.now spare.marks.items spare.tied)) }
 {
@@ -159,7 +159,7 @@ pub(crate) fn known_of(alloc: Global, asking: &Asking, verdict: Verdict) -> Resu
         Some(spare) => Ok(Known {
             marks: spare.marks,
             verdict,
-            tie: tie_told(verdict, spare.tied),
+            tie: tie_beside(verdict, spare.tied),
         }),
         None => Ok(Known::nothing(alloc, verdict)),
     }

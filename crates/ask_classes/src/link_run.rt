@@ -3,7 +3,7 @@
 ghost use Rattle.std.specs.Prelude.{◌≡◌, ℕ, ◌+◌, ◌<◌, List, count_by, length};
 ghost use Rattle.cfg_ast.specs.declared.topology.Link.{Link};
 ghost use Rattle.ask_classes.specs.Failing.{has_same_ends, link_rank};
-ghost use Rattle.ask_classes.specs.Runs.{IsRun};
+ghost use Rattle.ask_classes.specs.Runs.{IsLinkRun};
 
 use cfg_ast::Link;
 
@@ -28,7 +28,7 @@ fn count_between(links: &[Link], link: Link) -> usize
 impl LinkRun {
     /// Of no links.
     pub(crate) fn none() -> LinkRun
-        ensures { (links : List Link) → IsRun links 0 result }
+        ensures { (links : List Link) → IsLinkRun links 0 result }
     {
         LinkRun {
             highest: 0,
@@ -39,8 +39,8 @@ impl LinkRun {
     /// Of one link more.
     pub(crate) fn with(self, links: &[Link], place: usize) -> LinkRun
         requires place { place < length links.now }
-        requires run { IsRun links.now place self }
-        ensures { IsRun links.now (place + 1) result }
+        requires run { IsLinkRun links.now place self }
+        ensures { IsLinkRun links.now (place + 1) result }
     {
         let low = links[place].low;
         if low > self.highest {
@@ -56,7 +56,7 @@ impl LinkRun {
     /// Which of the links between its routers the last of these links is, counted from 1.
     pub(crate) fn rank(self, links: &[Link], place: usize, link: Link) -> usize
         requires place { place < length links.now }
-        requires run { IsRun links.now (place + 1) self }
+        requires run { IsLinkRun links.now (place + 1) self }
         ensures { result ≡ link_rank links.now place link }
     {
         if link.low < self.highest {

@@ -4,7 +4,7 @@ ghost use Rattle.std.specs.Prelude.{◌≡◌, ◌<◌, ◌≤◌, ◌+◌, ◌^
 ghost use Rattle.srp_core.specs.Without.{marked_down};
 ghost use Rattle.ask_classes.specs.Failing.{is_link_left, link_losses, loss_of_link, trial_line, IsTried, Loss};
 ghost use Rattle.ask_classes.specs.Known.{KnowsTrials};
-ghost use Rattle.ask_classes.specs.Runs.{IsRun};
+ghost use Rattle.ask_classes.specs.Runs.{IsLinkRun};
 ghost use Rattle.ask_classes.specs.Scenes.{IsAsking};
 ghost use Rattle.ask_classes.specs.Tries.{StepsOver, trial_of, WritesTrials};
 
@@ -39,7 +39,7 @@ fn put_trial(
 ) -> Result<(), NoMemory>
     requires asking { IsAsking asking.now }
     requires place { place < length asking.now.scene.now.links.now }
-    requires run { IsRun asking.now.scene.now.links.now (place + 1) run }
+    requires run { IsLinkRun asking.now.scene.now.links.now (place + 1) run }
     ensures { OnOk result (bytes.new.items ≡ bytes.old.items ++ trial_line (loss_of_link asking.now.problems.now.whole.now.names asking.now.scene.now.links.now asking.now.scene.now.routers_down.now asking.now.scene.now.links_down.now (place, link), trial_of answer.now)) }
 {
     if is_yes(answer.verdict) {
@@ -86,7 +86,7 @@ fn try_link(
     requires asking { IsAsking asking.now }
     requires known { KnowsTrials asking.now known.now }
     requires place { place < length asking.now.scene.now.links.now }
-    requires run { IsRun asking.now.scene.now.links.now (place + 1) run }
+    requires run { IsLinkRun asking.now.scene.now.links.now (place + 1) run }
     requires tried { tally.tried < 2 ^ 32 }
     requires failed { tally.failed ≤ tally.tried }
     requires tied { tally.tied ≤ tally.tried }
