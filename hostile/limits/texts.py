@@ -5,7 +5,8 @@ import dataclasses
 import functools
 from collections.abc import Callable, Iterator
 
-from hostile.limits import collisions, outputs
+from hostile.limits import collisions, diagrams, outputs
+from hostile.limits.numbers import NUMBERED, address, joined
 
 TOO_LONG = "refused: FileTooLong"
 
@@ -26,16 +27,6 @@ class Case:
     second: Callable[[], bytes] | None = None
     memory: int | None = None
     size: int | None = None
-
-
-def joined(lines: list[str]) -> bytes:
-    """Lines as a text."""
-    return ("\n".join(lines) + "\n").encode()
-
-
-def address(number: int) -> str:
-    """A number as an address."""
-    return ".".join(str(number >> shift & 255) for shift in (24, 16, 8, 0))
 
 
 def long_text(size: int) -> bytes:
@@ -148,15 +139,18 @@ def worst(scale: int) -> Iterator[Case]:
         yield Case(
             f"{count:,} {named.name} that meet", one, functools.partial(collisions.with_names, named, count), 0, "", 0
         )
-    for count in (2000 * scale, 4000 * scale):
-        yield Case(f"{count:,} addresses", one, functools.partial(collisions.plain_addresses, count), 0, "", 0)
-        yield Case(f"{count:,} addresses that meet", one, functools.partial(collisions.with_addresses, count), 0, "", 0)
+    for numbered in NUMBERED:
+        count = min(4000 * scale, numbered.bound)
+        for meet in (False, True):
+            name = f"{count:,} {numbered.name}{' that meet' if meet else ''}"
+            text, second = (functools.partial(make, count, meet) for make in (numbered.text, numbered.second))
+            yield Case(name, numbered.words, text, 0, "", numbered.output, second)
     groups = ("groups", "F", "1")
     for pairs in (8, 12, 14):
         yield Case(
             f"a list of {pairs} lines whose diagram has 2^{pairs} nodes",
             groups,
-            functools.partial(collisions.exploding, pairs),
+            functools.partial(diagrams.exploding, pairs),
             0,
             "",
             2,
@@ -165,7 +159,7 @@ def worst(scale: int) -> Iterator[Case]:
         yield Case(
             f"2^60 nodes in {memory // 1024} MiB",
             groups,
-            lambda: collisions.exploding(60),
+            lambda: diagrams.exploding(60),
             5,
             "out of memory",
             0,

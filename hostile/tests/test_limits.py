@@ -8,6 +8,7 @@ import pytest
 
 from hostile.limits import collisions
 from hostile.limits.measuring import is_left_out, measured
+from hostile.limits.numbers import NUMBERED
 from hostile.limits.stale import Ring, ran
 from hostile.limits.texts import Case, cases, exact_pairs, long_text, worst
 
@@ -29,11 +30,24 @@ def test_a_text_made_to_take_long(case: Case, tmp_path: Path) -> None:
 
 @pytest.mark.skipif(shutil.which("gcc") is None, reason="the package gcc is not there: nothing is compiled")
 def test_keys_that_meet() -> None:
-    """Different names and addresses, as many as were asked for."""
-    for kind in ("names", "addresses"):
+    """Different keys of each kind, as many as were asked for."""
+    for kind in ("names", *(numbered.kind for numbered in NUMBERED)):
         found = collisions.keys(kind, 2000)
         assert len(set(found)) == len(found) == 2000
     assert all(len(name) == 8 and name[0] == "a" and name[-1] == "0" for name in collisions.keys("names", 10))
+
+
+@pytest.mark.skipif(shutil.which("gcc") is None, reason="the package gcc is not there: nothing is compiled")
+def test_one_sum() -> None:
+    """The preferences of maps lead to one sum."""
+    sums = set()
+    for preferences in collisions.keys("sums", 20):
+        total = 0
+        for place, preference in enumerate(preferences.split(".")):
+            for part in (10 * place + 10, 1, 6, int(preference), 10, 11, 0):
+                total = (total ^ part) * 1_099_511_628_211 % 2**64
+        sums.add(total)
+    assert len(sums) == 1
 
 
 def test_the_sizes_of_texts() -> None:
