@@ -63,7 +63,7 @@ fn both_files(alloc: Global, text: List<u8>, solution: List<u8>) -> Result<MemSo
     Ok(MemSource::new(files, List::new(alloc)))
 }
 
-// An output with room for so many bytes, which never fails before.
+// An output that begins empty, with room for so many bytes.
 fn output_of(alloc: Global, room: usize) -> Result<MemSink, NoMemory>
     ensures { IfOk result (λ sink. sink.taken ≡ []) }
 {

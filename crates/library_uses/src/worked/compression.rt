@@ -22,6 +22,7 @@ pub fn compressed(alloc: Global, net: &Checked, class: &DestClass) -> Result<Emi
     let problem = problem_of_class(alloc, net, class)?;
     let groups = coarsest_of(alloc, &problem)?;
     let links = links_of_groups(alloc, &problem, &groups)?;
+    // This brings into view that the groups are numbered.
     let _count = groups.groups();
     plan_compresses();
     emit(alloc, net, class, &problem, &groups, &links)

@@ -20,7 +20,7 @@ returns c =
       class = c.args.class.now;
       problem = c.in_ok-problem.problem;
       groups = c.in_ok-groups.groups;
-      count = c.groups-_count.result;
+      count = c.groups-count.result;
       links = c.in_ok-links.links.links;
     } in
     printed_compresses c.plan_compresses.ensures net.network c.args.class.now net.given net.faultless c.requires plan
@@ -29,6 +29,6 @@ returns c =
       class_is = refl;
       built = c.in_ok-problem.ensures;
       coarsest = c.in_ok-groups.ensures;
-      numbered = c.groups-_count.ensures;
-      links = c.in_ok-links.ensures c.groups-_count.result c.groups-_count.ensures;
-    }) c.emit.result (c.emit.ensures c.groups-_count.result c.groups-_count.ensures)
+      numbered = c.groups-count.ensures;
+      links = c.in_ok-links.ensures c.groups-count.result c.groups-count.ensures;
+    }) c.emit.result (c.emit.ensures c.groups-count.result c.groups-count.ensures)
