@@ -31,4 +31,4 @@ returns c =
       coarsest = c.in_ok-groups.ensures;
       numbered = c.groups-count.ensures;
       links = c.in_ok-links.ensures c.groups-count.result c.groups-count.ensures;
-    }) c.emit.result (c.emit.ensures c.groups-count.result c.groups-count.ensures)
+    }) c.emit.result (c.emit.ensures.emits c.groups-count.result c.groups-count.ensures)
