@@ -222,7 +222,7 @@ NUMBERED = (
     Numbered("rules of prefix lists", "rules", rules, counted),
     Numbered("prefixes of three routers", "origins", originated, triples, output=None, bound=40_000),
     Numbered("maps", "sums", maps, shuffled, GROUPS, 1, 20_000),
-    Numbered("lines of 32 communities", "numbers", communities, counted, bound=50_000, most=1024),
+    Numbered("lines of 32 communities", "numbers", communities, counted, bound=40_000, most=1024),
     Numbered("lone routers", "numbers", line_of_routers, counted, CHECK, 1, 1000, labels=labels_of_line),
     Numbered("preferences of sessions", "entries", sessions, counted, COMPRESS, None, 20_000),
 )
