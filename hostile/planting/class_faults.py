@@ -38,7 +38,7 @@ CLASSES: list[Fault] = [
         "ask_classes/src/link_trials.rt",
         "    let low = name_at(asking.scene.network, link.low);\n    let high = name_at(asking.scene.network, link.high);\n",
         "    let (one, other) = if PLANTED { (link.high, link.low) } else { (link.low, link.high) };\n    let low = name_at(asking.scene.network, one);\n    let high = name_at(asking.scene.network, other);\n",
-        "a link is told from its higher end",
+        "a link is written from its higher end",
     ),
     switched_fault(
         "trial-alone",
@@ -117,7 +117,7 @@ REPORTS: list[Fault] = [
         "ask_answers/src/questions.rt",
         "    let head = question_line(alloc, asked.line)?;\n",
         "    let head = question_line(alloc, if PLANTED { 1 } else { asked.line })?;\n",
-        "each question is told as that of line 1",
+        "each question is reported as that of line 1",
     ),
     switched_fault(
         "kind-of-form",
@@ -210,7 +210,7 @@ CALLS: list[Fault] = [
         "ask_top/src/top.rt",
         "        Ok(None) => tell(out, err, &Finding::Misuse, USAGE, first, second),\n",
         "        Ok(None) => {\n            let told = if PLANTED { Finding::NoMemory } else { Finding::Misuse };\n            tell(out, err, &told, USAGE, first, second)\n        }\n",
-        "words of no form are told as want of memory",
+        "words of no form are reported as out of memory",
     ),
     switched_fault(
         "short-questions",
@@ -238,28 +238,28 @@ CALLS: list[Fault] = [
         "ask_top/src/findings.rt",
         "        Err(InFault::Failed) => Finding::SecondFailed,\n",
         "        Err(InFault::Failed) => if PLANTED {\n            Finding::ReadFailed\n        } else {\n            Finding::SecondFailed\n        },\n",
-        "a file of questions that is not there is told as the network",
+        "a file of questions that is not there is reported as the network",
     ),
     switched_fault(
         "long-is-misuse",
         "ask_top/src/findings.rt",
         "        Err(InFault::TooLong) => long_questions(alloc),\n",
         "        Err(InFault::TooLong) => if PLANTED {\n            Finding::Misuse\n        } else {\n            long_questions(alloc)\n        },\n",
-        "a file of questions that is too long is told as words of no form",
+        "a file of questions that is too long is reported as words of no form",
     ),
     switched_fault(
         "long-unnamed",
         "ask_top/src/findings.rt",
         '    match Vec::from_slice(alloc, b"questions FileTooLong") {\n',
         '    let long = if PLANTED {\n        b"FileTooLong".as_slice()\n    } else {\n        b"questions FileTooLong".as_slice()\n    };\n    match Vec::from_slice(alloc, long) {\n',
-        "a file of questions that is too long is told as the network",
+        "a file of questions that is too long is reported as the network",
     ),
     switched_fault(
         "finding-lost",
         "ask_top/src/findings.rt",
         "        Err(finding) => finding,\n",
         "        Err(finding) => if PLANTED { Finding::Misuse } else { finding },\n",
-        "a text that is refused is told as words of no form",
+        "a text that is refused is reported as words of no form",
     ),
 ]
 FILES: list[Fault] = [
@@ -289,14 +289,14 @@ FILES: list[Fault] = [
         "network_files/src/lib.rt",
         "        Err(InFault::Failed) => Err(Finding::ReadFailed),\n",
         "        Err(InFault::Failed) => Err(if PLANTED {\n            Finding::NoMemory\n        } else {\n            Finding::ReadFailed\n        }),\n",
-        "a text that is not there is told as want of memory",
+        "a text that is not there is reported as out of memory",
     ),
     switched_fault(
         "long-is-memory",
         "network_files/src/lib.rt",
         "        Err(InFault::TooLong) => Err(long_text(alloc)),\n",
         "        Err(InFault::TooLong) => Err(if PLANTED {\n            Finding::NoMemory\n        } else {\n            long_text(alloc)\n        }),\n",
-        "a text that is too long is told as want of memory",
+        "a text that is too long is reported as out of memory",
     ),
     switched_fault(
         "long-otherwise",

@@ -224,7 +224,7 @@ ANSWERS: list[Fault] = [
         "solution_answers/src/solutions.rt",
         "    if one {\n",
         "    if one || PLANTED {\n",
-        "a solution of a range is told without its class",
+        "a solution of a range is written without its class",
     ),
     switched_fault(
         "from-none",
@@ -252,7 +252,7 @@ ANSWERS: list[Fault] = [
         "solution_answers/src/hops.rt",
         '        None => text.push_str(" none"),\n',
         '        None => text.push_str(if PLANTED { " here" } else { " none" }),\n',
-        "a router without a label is told as an originator",
+        "a router without a label is reported as an originator",
     ),
     switched_fault(
         "none-is-no",
@@ -324,7 +324,7 @@ SPARE: list[Fault] = [
         "spare_links/src/ways.rt",
         "                tied = Some(edge.importer);\n",
         "                tied = if PLANTED { None } else { Some(edge.importer) };\n",
-        "where routes tie nothing is told of a lost link",
+        "where routes tie nothing is reported of a lost link",
     ),
     switched_fault(
         "longer-is-way",

@@ -34,7 +34,7 @@ def _name_line(router: Source) -> Line:
 
 
 def told_of_same(other: Source, router: Source) -> str:
-    """What is told of a router whose host name an earlier one has."""
+    """What is reported of a router whose host name an earlier one has."""
     place = _name_line(other).place
     where = f"{place}" if place.line else place.file
     told = f"{where} has the host name {other.name} too"

@@ -24,7 +24,7 @@ EDITS = (
 
 
 def links(network: Parsed, shared: frozenset[str]) -> list[tuple[str, ...]]:
-    """The links in order, but for those between two routers that are the same."""
+    """The links in order, except those between two routers that are the same."""
     return [_shape(link) for link in network.links if not {link.low.device.name, link.high.device.name} <= shared]
 
 
