@@ -75,20 +75,6 @@ WITHOUT: list[Fault] = [
         "        [case] => Accepted::One(if PLANTED { 100 } else { case.0 }),\n",
         "a session that accepts one preference accepts 100",
     ),
-    switched_fault(
-        "sends-nothing",
-        "srp_without/src/copies.rt",
-        "            sends: *sends,\n",
-        "            sends: *sends && !PLANTED,\n",
-        "communities are not sent where something is down",
-    ),
-    switched_fault(
-        "cost-lost",
-        "srp_without/src/copies.rt",
-        "        Act::Cost(cost) => Ok(Act::Cost(*cost)),\n",
-        "        Act::Cost(cost) => Ok(Act::Cost(if PLANTED { 1 } else { *cost })),\n",
-        "each cost is 1 where something is down",
-    ),
 ]
 QUESTIONS: list[Fault] = [
     switched_fault(
