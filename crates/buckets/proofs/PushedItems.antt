@@ -1,22 +1,30 @@
 -- Items put last at a pair of numbers.
-use Rattle.std.proofs.Common.{◌≡◌, ℕ, ◌+◌, ◌<◌, Bool, true, false, cond, ◌&&◌, nat_eq, List, [], ◌∷◌, ◌++◌, filter, length, get_or, take, Option, Some, None, Vec, refl, sym, ◌∙◌, ap, arith, append_assoc}
-use Rattle.std.specs.Option.{option_map_or, unwrap_or}
+use Rattle.std.proofs.Common.{◌≡◌, ℕ, ◌+◌, ◌<◌, Bool, true, false, cond, ◌&&◌, nat_eq, List, [], ◌∷◌, ◌++◌, filter, length, get_or, take, Option, Some, None, Vec, Result, Ok, Err, refl, sym, ◌∙◌, ap, arith, append_assoc}
+use Rattle.std.specs.Prelude.{MatchResult}
+use Rattle.std.specs.Result.{IsErr}
+use Rattle.std.specs.Option.{option_map_or}
 use Rattle.std.specs.HashMap.{get}
 use Rattle.std.specs.declared.alloc.Global.{Global}
 use Rattle.std.proofs.lemmas.Bool.Decides.{nat_tests}
 use Rattle.std.proofs.lemmas.List.{take_more}
 use Rattle.std.proofs.lemmas.List.Elements.{filter-append}
 use Rattle.base_kit.specs.Pairs.{same_pair}
-use Rattle.buckets.specs.Buckets.{is_at_pair, Index, bucket, PushesAt, IsIndex}
+use Rattle.buckets.specs.Buckets.{is_at_pair, Index, bucket, HasSameItems, PushesAt, IsIndex}
 
 items_of : {T : Type 0} → Option (Vec T Global) → List T
 items_of {T} o = option_map_or (λ (v : Vec T Global). v.items) o []
 
-pushed_step : {T : Type 0} (old mid new : Option (Vec T Global)) (same : List T) (b : Bool) (v : Vec T Global) (x : T) → mid ≡ cond b None old →
-    new ≡ cond b (Some v) mid → v.items ≡ same ++ x ∷ [] → (b ≡ true → same ≡ items_of old) → items_of new ≡ cond b (items_of old ++ x ∷ []) (items_of old)
+put_step : {T : Type 0} (old new : Option (Vec T Global)) (b : Bool) (v : Vec T Global) (x : T) → (b ≡ true → old ≡ None) → new ≡ cond b (Some v) old →
+    v.items ≡ x ∷ [] → items_of new ≡ cond b (items_of old ++ x ∷ []) (items_of old)
 unfolding items_of
-pushed_step {T} old mid new same true v x e f g h = ap items_of f ∙ g ∙ ap (λ (l : List T). l ++ x ∷ []) (h refl)
-pushed_step old mid new same false v x e f g h = ap items_of f ∙ ap items_of e
+put_step {T} old new true v x none takes is = ap items_of takes ∙ is ∙ sym (ap (λ o. items_of o ++ x ∷ []) (none refl))
+put_step old new false v x none takes is = ap items_of takes
+
+same_step : {T : Type 0} (old new : Option (Vec T Global)) (b : Bool) (v w : Vec T Global) → (b ≡ true → old ≡ Some v) → new ≡ cond b (Some w) old →
+    w.items ≡ v.items → items_of new ≡ items_of old
+unfolding items_of
+same_step old new true v w some takes is = ap items_of takes ∙ is ∙ sym (ap items_of (some refl))
+same_step old new false v w some takes is = ap items_of takes
 
 same_numbers : (m n : ℕ) → nat_eq m n ≡ true → m ≡ n
 same_numbers m n e = grind (arith, nat_tests)
@@ -33,21 +41,30 @@ same_pairs p q e =
     let second : p.1 ≡ q.1 = same_numbers p.1 q.1 parts.1 in
     ap (λ m. (m, p.1)) first ∙ ap (λ n. (q.0, n)) second
 
--- an item taken out and put back with one more
-pub pushed : {T : Type 0} (old mid new : Index T) (pair : ℕ × ℕ) (v : Vec T Global) (same : List T) (x : T)
-    → ((q : ℕ × ℕ) → get same_pair mid q ≡ cond (same_pair pair q) None (get same_pair old q))
-    → ((q : ℕ × ℕ) → get same_pair new q ≡ cond (same_pair pair q) (Some v) (get same_pair mid q))
-    → same ≡ bucket old pair → v.items ≡ same ++ x ∷ [] → PushesAt old new pair x
+-- the first item of a pair
+pub put : {T : Type 0} (old new : Index T) (pair : ℕ × ℕ) (v : Vec T Global) (x : T) → get same_pair old pair ≡ None
+    → ((q : ℕ × ℕ) → get same_pair new q ≡ cond (same_pair pair q) (Some v) (get same_pair old q))
+    → v.items ≡ x ∷ [] → PushesAt old new pair x
 unfolding items_of
-pushed old mid new pair v same x taken put is items = record {
-  each = λ q. pushed_step (get same_pair old q) (get same_pair mid q) (get same_pair new q) same (same_pair pair q) v x (taken q) (put q) items
-      (λ e. is ∙ ap (λ p. bucket old p) (same_pairs pair q e));
+put old new pair v x none takes is = record {
+  each = λ q. put_step (get same_pair old q) (get same_pair new q) (same_pair pair q) v x
+      (λ e. sym (ap (λ p. get same_pair old p) (same_pairs pair q e)) ∙ none) (takes q) is;
 }
 
-pub unwrapped : {T : Type 0} (o : Option (Vec T Global)) (d : Vec T Global) → d.items ≡ [] →
-    (unwrap_or o d).items ≡ option_map_or (λ (v : Vec T Global). v.items) o []
-unwrapped None d e = e
-unwrapped (Some v) d e = refl
+-- what holds where a call is refused
+pub where_refused : {X Y Q : Type 0} (P : Type 0) (r : Result X Y) → IsErr r → Q → MatchResult r (λ (x : X). P) (λ (y : Y). Q)
+where_refused P (Ok x) is holds = cc
+where_refused P (Err y) is holds = holds
+
+-- the same items of a pair, put back
+pub put_back : {T : Type 0} (old new : Index T) (pair : ℕ × ℕ) (v w : Vec T Global) → get same_pair old pair ≡ Some v
+    → ((q : ℕ × ℕ) → get same_pair new q ≡ cond (same_pair pair q) (Some w) (get same_pair old q))
+    → w.items ≡ v.items → HasSameItems old new
+unfolding items_of
+put_back old new pair v w some takes is = record {
+  each = λ q. same_step (get same_pair old q) (get same_pair new q) (same_pair pair q) v w
+      (λ e. sym (ap (λ p. get same_pair old p) (same_pairs pair q e)) ∙ some) (takes q) is;
+}
 
 same_either_way : (m n : ℕ) → nat_eq m n ≡ nat_eq n m
 same_either_way m n = grind (arith, nat_tests)

@@ -17,6 +17,10 @@ bucket {T} index pair = option_map_or (λ (v : Vec T Global). v.items) (get same
 pub record PushesAt {T : Type 0} (old new : Index T) (pair : ℕ × ℕ) (item : T) : Type 0 where
   pub each : (q : ℕ × ℕ) → bucket new q ≡ (if same_pair pair q then bucket old q ++ item ∷ [] else bucket old q)
 
+-- each pair has the items that it had
+pub record HasSameItems {T : Type 0} (old new : Index T) : Type 0 where
+  pub each : (q : ℕ × ℕ) → bucket new q ≡ bucket old q
+
 -- the item stands at that pair
 abbrev pub is_at_pair : {T : Type 0} → (T → ℕ × ℕ) → ℕ × ℕ → T → Bool
 is_at_pair pair_of pair x = same_pair pair (pair_of x)

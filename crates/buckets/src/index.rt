@@ -1,7 +1,7 @@
 //! Items under pairs of numbers.
 
-ghost use Rattle.std.specs.Prelude.{◌≡◌, OnOk};
-ghost use Rattle.buckets.specs.Buckets.{bucket, PushesAt};
+ghost use Rattle.std.specs.Prelude.{◌≡◌, MatchResult};
+ghost use Rattle.buckets.specs.Buckets.{bucket, HasSameItems, PushesAt};
 
 use base_kit::NoMemory;
 use number_hashing::NumberHashing;
@@ -11,7 +11,10 @@ use std::collections::HashMap;
 /// The items of each pair.
 pub type Index<T> = HashMap<(u32, u32), Vec<T>, NumberHashing>;
 
-/// Puts the item last at that pair. Where memory runs out, the items of the pair may be lost.
+/// Puts the item last at that pair.
+///
+/// # Errors
+/// Out of memory: the items of each pair stay.
 pub fn push_at<T>(
     alloc: Global,
     index: &mut Index<T>,
@@ -20,11 +23,15 @@ pub fn push_at<T>(
 ) -> Result<(), NoMemory>
 where
     T: Drop,
-    ensures { OnOk result (PushesAt index.old index.new pair item) }
+    ensures { MatchResult result (λ _. PushesAt index.old index.new pair item) (λ _. HasSameItems index.old index.new) }
 {
-    let mut same = index.remove(&pair).unwrap_or(Vec::new(alloc));
-    same.push(item)?;
-    index.insert(pair, same)?;
+    if let Some(items) = index.get_mut(&pair) {
+        items.push(item)?;
+        return Ok(());
+    }
+    let mut items = Vec::new(alloc);
+    items.push(item)?;
+    index.insert(pair, items)?;
     Ok(())
 }
 
