@@ -1,8 +1,8 @@
 //! Numbers, addresses, prefixes, communities and names at the end of a text.
 //!
 //! Each call appends exactly the bytes that the definitions of printing give for a value, or runs out of
-//! memory: what was in the text before then stands as it was, and the first pieces may stand behind it.
-//! Crates that print lines put them together from these.
+//! memory. Then the text still begins with all that it held; a part of the value may follow, as the
+//! first two numbers of an address. Crates that print lines put them together from these.
 #![tactic(auto)]
 
 mod values;

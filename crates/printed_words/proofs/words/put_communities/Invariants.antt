@@ -5,5 +5,6 @@ use Rattle.printed_words.specs.Spaced.{spaced_words}
 use Rattle.printed_words.proofs.words.put_communities.Given as goal
 
 abbrev pub invariant-loop-community : goal.invariant-loop-community
-invariant-loop-community l = (string_bytes l.text ++ spaced_words (map community_text (drop l.community-index l.items)) ≡ string_bytes l.fn.text ++ spaced_words (map community_text l.items))
+invariant-loop-community l = (string_bytes l.text ++ spaced_words (map community_text (drop l.community-index l.items))
+    ≡ string_bytes l.fn.text ++ spaced_words (map community_text l.items))
     × HasGrown (string_bytes l.fn.text) (string_bytes l.text)
