@@ -228,7 +228,8 @@ module _ (es : List Edge) (groups : List ℕ) where
     early_more new None is put = subst (AreEarly es groups (place + 1)) (sym put) (early_none (sym is))
     early_more new (Some s) is put = early_some new s (sym is) put
 
-  pub early_end : (steps : List Step) → AreEarly es groups (length es) steps → first_kinds none_met (by_key link_of (link_bound es) steps) ≡ first_steps es groups
+  pub early_end : (steps : List Step) → AreEarly es groups (length es) steps
+      → first_kinds none_met (by_key link_of (link_bound es) steps) ≡ first_steps es groups
   early_end steps are =
       let none : length es - length es ≡ 0 = omega arith in
       ap (λ (l : List Step). first_kinds none_met (by_key link_of (link_bound es) l))

@@ -1,16 +1,16 @@
 -- Steps by the places of their edges.
-use Rattle.std.proofs.Common.{◌≡◌, ◌≢◌, ℕ, ◌<◌, Bool, true, false, cond, ◌&&◌, ◌||◌, List, [], ◌∷◌, ◌++◌, length, min, max, Option, Some, None, refl, sym, ◌∙◌, ap, arith, inl, inr}
-use Rattle.std.specs.Prelude.{filter, filter_map, flat_map, nat_eq, nat_lt}
+use Rattle.std.proofs.Common.{◌≡◌, ◌≢◌, ℕ, ◌<◌, Bool, true, false, cond, ◌&&◌, ◌||◌, List, [], ◌∷◌, min, max, Option, Some, None, refl, sym, ◌∙◌, ap, arith, inl, inr}
+use Rattle.std.specs.Prelude.{filter, filter_map, nat_eq, nat_lt}
 use Rattle.std.specs.Bool.{beq}
-use Rattle.std.specs.List.{range_with_len, list_any, cons_option}
-use Rattle.std.proofs.lemmas.List.Elements.{filter_map-append, filter_agree}
+use Rattle.std.specs.List.{list_any, cons_option}
+use Rattle.std.proofs.lemmas.List.Elements.{filter_agree}
 use Rattle.std.proofs.lemmas.Bool.Decides.{nat_tests}
 use Rattle.base_kit.specs.declared.act_graph.Edge.{Edge}
 use Rattle.base_kit.proofs.Elements.{In, filter_in, filter_map_in}
-use Rattle.by_key.specs.ByKey.{with_key, by_key}
+use Rattle.by_key.specs.ByKey.{with_key}
 use Rattle.abstract_net.specs.declared.steps.Step.{Step}
 use Rattle.abstract_net.specs.Carried.{act_at}
-use Rattle.abstract_net.specs.Links.{link_at, importer_at, exporter_at, link_bound, on_link, by_link, goes, first_acts, acts_into}
+use Rattle.abstract_net.specs.Links.{link_at, importer_at, exporter_at, by_link, goes, first_acts, acts_into}
 use Rattle.abstract_net.specs.GroupSteps.{step_at, low_of, high_of, first_new, goes_into, edges_into}
 
 -- ---- lists

@@ -46,8 +46,8 @@ fn step_of(p: &Partition, place: u32, edge: &Edge) -> Option<Step>
     })
 }
 
-// The groups of a step, the lower one first, and its direction and act.
-type StepWay = ((u32, u32), (bool, u32));
+// The kind of a step: its groups, the lower one first, its direction and its act.
+type StepKind = ((u32, u32), (bool, u32));
 
 fn is_same_kind(a: &Step, b: &Step) -> bool
     ensures { result ≡ same_kind a.now b.now }
@@ -72,7 +72,7 @@ fn is_early(steps: &[Step], step: &Step) -> bool
 
 // Puts a step last, if none of its kind was met yet.
 fn push_first(
-    met: &mut HashSet<StepWay>,
+    met: &mut HashSet<StepKind>,
     steps: &mut Vec<Step>,
     step: Option<Step>,
 ) -> Result<(), NoMemory>
@@ -149,7 +149,7 @@ fn sort_by_link(steps: &mut Vec<Step>) -> Result<(), NoMemory>
 fn first_of_each(alloc: Global, steps: &[Step]) -> Result<Vec<Step>, NoMemory>
     ensures { IfOk result (λ found. found.items ≡ first_kinds none_met steps.now) }
 {
-    let mut met: HashSet<StepWay> = HashSet::new(alloc);
+    let mut met: HashSet<StepKind> = HashSet::new(alloc);
     let mut found = Vec::new(alloc);
     for step in steps {
         push_first(&mut met, &mut found, Some(*step))?;
@@ -165,7 +165,7 @@ fn first_steps_of_all(alloc: Global, edges: &[Edge], p: &Partition) -> Result<Ve
     ensures { IfOk result (λ steps. steps.items ≡ first_steps edges.now p.now) }
 {
     let places = places_by_link(alloc, edges)?;
-    let mut met: HashSet<StepWay> = HashSet::new(alloc);
+    let mut met: HashSet<StepKind> = HashSet::new(alloc);
     let mut steps = Vec::new(alloc);
     for place in &places {
         let step = step_of(p, *place, &edges[*place as usize]);
