@@ -1,21 +1,23 @@
 -- Reading a certificate stops at the first line that has a fault by the lines before it.
-use Rattle.std.proofs.Common.{◌≡◌, ℕ, ◌+◌, Bool, true, false, cond, nat_eq, List, [], ◌∷◌, length, map, refl, sym, ap, ◌∙◌, subst, Option, Some, None, Result, Ok, Err}
+use Rattle.std.proofs.Common.{◌≡◌, ℕ, ◌+◌, Bool, true, false, cond, nat_eq, List, [], ◌∷◌, ◌++◌, length, map, refl, sym, ap, ◌∙◌, subst, Option, Some, None, Result, Ok, Err}
 use Rattle.std.specs.Prelude.{slice_get}
 use Rattle.std.specs.List.{cons_option}
 use Rattle.base_kit.specs.declared.act_graph.ActGraph.{ActGraph}
 use Rattle.cfg_ast.specs.text.TextLines.{TextLine, text_line}
 use Rattle.cfg_ast.specs.text.Members.{all_lines_of}
+use Rattle.cut_certificate.specs.declared.certificate.Certificate.{Certificate}
+use Rattle.cut_certificate.specs.declared.certificate.Split.{Split}
 use Rattle.cut_certificate.specs.declared.refusal.CutKind.{CutKind}
+use Rattle.cut_certificate.specs.declared.refusal.CutRefusal.{CutRefusal}
 use Rattle.cut_certificate.specs.declared.refusal.CutKind.TheVariants as kinds
-use Rattle.cut_certificate.specs.declared.refusal.CutRefusal.TheVariants.{At}
 use Rattle.cut_certificate.specs.declared.standing.Stage.{Stage}
 use Rattle.cut_certificate.specs.declared.standing.Stage.TheVariants.{Opening, Splitting, Naming, Closed}
 use Rattle.cut_certificate.specs.Blocks.{Blocks, blocks_after, split_by, groups_of}
 use Rattle.cut_certificate.specs.Evenness.{are_even}
 use Rattle.cut_certificate.specs.Forms.{CertificateLine, certificate_line_of}
 use Rattle.cut_certificate.specs.Forms.CertificateLine.{Head, Divide, Group, End}
-use Rattle.cut_certificate.specs.LineFaults.{said_on, may_split, may_name, is_ended, is_first, groups_named, edge_by_name, split_at, divided, blocks_behind, unless, kind_or_else, kind_in, edge_fault, split_fault, group_fault, end_fault, fault_of_said, line_fault, at_line, first_refusal, refusal_in, FirstLineDecides}
-use Rattle.cut_certificate.specs.Texts.{Standing, opening, router_named, edge_named, routers_named, with_head, with_blocks, with_edge, with_router, with_split, is_next_group, with_members, with_group, with_all_groups, with_closing, with_saying, with_line, ended, go_on, certificate_from, certificate_of_text}
+use Rattle.cut_certificate.specs.LineFaults.{said_on, is_ended, is_first, groups_named, edge_by_name, split_at, divided, blocks_behind, unless, kind_or_else, kind_in, edge_fault, split_fault, group_fault, end_fault, fault_of_said, line_fault, at_line, first_refusal, split_more, splits_said, lines_said, certificate_said, unless_at_fault, FirstLineDecides}
+use Rattle.cut_certificate.specs.Texts.{Standing, opening, router_named, edge_named, routers_named, with_head, with_blocks, with_edge, with_router, with_split, is_next_group, with_members, with_group, with_all_groups, with_closing, with_saying, with_line, certificate_of, ended, go_on, certificate_from, certificate_of_text}
 use Rattle.cut_certificate.proofs.StepsOf.{made}
 
 -- what may come next, by what the nearest line says
@@ -31,6 +33,7 @@ record Agrees (graph : ActGraph) (names : List (List ℕ)) (past : List Certific
   pub stage : s.stage ≡ stage_of past
   pub blocks : s.blocks ≡ blocks_behind graph names past
   pub named : s.named ≡ groups_named past
+  pub splits : s.splits ≡ splits_said graph names past
 
 -- a line goes on and has no fault, or stops with its fault
 abbrev Outcome : ActGraph → List (List ℕ) → List CertificateLine → Result Standing CutKind → Option CutKind → Type 0
@@ -44,7 +47,7 @@ module _ (graph : ActGraph) (names : List (List ℕ)) (s : Standing) where
   -- ---- the head
 
   head_at : (past : List CertificateLine) → Agrees graph names past s → Stops (Head ∷ past) (with_head s (stage_of past)) (unless (is_first past) kinds.BadForm)
-  head_at [] ag = (refl, record { stage = refl; blocks = ag.blocks; named = ag.named })
+  head_at [] ag = (refl, record { stage = refl; blocks = ag.blocks; named = ag.named; splits = ag.splits })
   head_at (Head ∷ past) ag = refl
   head_at (Divide block by name link ∷ past) ag = refl
   head_at (Group words ∷ past) ag = refl
@@ -67,6 +70,8 @@ module _ (graph : ActGraph) (names : List (List ℕ)) (s : Standing) where
             ∙ ap (λ (b : Blocks). blocks_after graph.edges b (split_at block by place)) ag.blocks
             ∙ sym (ap (divided graph (blocks_behind graph names past) block by) edge);
         named = ag.named;
+        splits = ap (λ (l : List Split). l ++ split_at block by place ∷ []) ag.splits
+            ∙ sym (ap (split_more (splits_said graph names past) block by) edge);
       },
     )
 
@@ -105,7 +110,7 @@ module _ (graph : ActGraph) (names : List (List ℕ)) (s : Standing) where
     where
       by : (b : Bool) → Stops (Group words ∷ past) (cond b (Ok (record s { stage = Naming; named = s.named + 1 })) (Err kinds.WrongGroups))
           (unless b kinds.WrongGroups)
-      by true = (refl, record { stage = refl; blocks = ag.blocks; named = ap (λ (n : ℕ). n + 1) ag.named })
+      by true = (refl, record { stage = refl; blocks = ag.blocks; named = ap (λ (n : ℕ). n + 1) ag.named; splits = ag.splits })
       by false = refl
 
   group_at : (past : List CertificateLine) → Agrees graph names past s → (words : List (List ℕ))
@@ -129,7 +134,7 @@ module _ (graph : ActGraph) (names : List (List ℕ)) (s : Standing) where
           (kind_or_else (unless a kinds.WrongGroups) (unless b kinds.NotAdmissible))
       by false b = refl
       by true false = refl
-      by true true = (refl, record { stage = refl; blocks = ag.blocks; named = ag.named })
+      by true true = (refl, record { stage = refl; blocks = ag.blocks; named = ag.named; splits = ag.splits })
 
   end_at : (past : List CertificateLine) → Agrees graph names past s
       → Stops (End ∷ past) (with_closing graph.edges s (stage_of past)) (fault_of_said graph names past (Some End))
@@ -160,30 +165,40 @@ module _ (graph : ActGraph) (names : List (List ℕ)) (s : Standing) where
   line_at past ag [] = (refl, ag)
   line_at past ag (w ∷ ws) = saying_at past ag (certificate_line_of w ws)
 
-  no_end : (end : ℕ) (past : List CertificateLine)
-      → refusal_in (ended end s (stage_of past)) ≡ at_line end (unless (is_ended past) kinds.NoEnd) None
-  no_end end [] = refl
-  no_end end (Head ∷ past) = refl
-  no_end end (Divide block by name link ∷ past) = refl
-  no_end end (Group words ∷ past) = refl
-  no_end end (End ∷ past) = refl
+  spelled : (past : List CertificateLine) → Agrees graph names past s → certificate_of s ≡ certificate_said graph names past
+  spelled past ag =
+      ap (λ (l : List Split). record { splits = l; groups = groups_of s.blocks.numbers }) ag.splits
+      ∙ ap (λ (b : Blocks). record { splits = splits_said graph names past; groups = groups_of b.numbers }) ag.blocks
+
+  no_end : (end : ℕ) (past : List CertificateLine) → Agrees graph names past s
+      → ended end s (stage_of past) ≡ unless_at_fault (at_line end (unless (is_ended past) kinds.NoEnd) None) (certificate_said graph names past)
+  no_end end [] ag = refl
+  no_end end (Head ∷ past) ag = refl
+  no_end end (Divide block by name link ∷ past) ag = refl
+  no_end end (Group words ∷ past) ag = refl
+  no_end end (End ∷ past) ag = ap (λ (c : Certificate). Ok c) (spelled (End ∷ past) ag)
 
 -- ---- all lines
 
 module _ (graph : ActGraph) (names : List (List ℕ)) (end : ℕ) where
+  -- what the lines give, by the first fault and by all that is said
+  abbrev given : Option CutRefusal → List CertificateLine → List TextLine → Result Certificate CutRefusal
+  given fault past ls = unless_at_fault fault (certificate_said graph names (lines_said past ls))
+
   goes_on : (l : TextLine) (ls : List TextLine) (now : List CertificateLine)
       → ((next : Standing) → Agrees graph names now next
-      → refusal_in (certificate_from graph.edges (router_named names) end ls next) ≡ first_refusal graph names end now ls)
+      → certificate_from graph.edges (router_named names) end ls next ≡ given (first_refusal graph names end now ls) now ls)
       → (r : Result Standing CutKind) (fault : Option CutKind) → Outcome graph names now r fault
-      → refusal_in (go_on l.number r (certificate_from graph.edges (router_named names) end ls)) ≡ at_line l.number fault (first_refusal graph names end now ls)
+      → go_on l.number r (certificate_from graph.edges (router_named names) end ls)
+      ≡ given (at_line l.number fault (first_refusal graph names end now ls)) now ls
   goes_on l ls now rest (Ok next) fault o =
-      rest next o.1 ∙ ap (λ f. at_line l.number f (first_refusal graph names end now ls)) (sym o.0)
-  goes_on l ls now rest (Err kind) fault o = ap (λ f. at_line l.number f (first_refusal graph names end now ls)) (sym o)
+      rest next o.1 ∙ ap (λ f. given (at_line l.number f (first_refusal graph names end now ls)) now ls) (sym o.0)
+  goes_on l ls now rest (Err kind) fault o = ap (λ f. given (at_line l.number f (first_refusal graph names end now ls)) now ls) (sym o)
 
   all_lines : (ls : List TextLine) (past : List CertificateLine) (s : Standing) → Agrees graph names past s
-      → refusal_in (certificate_from graph.edges (router_named names) end ls s) ≡ first_refusal graph names end past ls
+      → certificate_from graph.edges (router_named names) end ls s ≡ given (first_refusal graph names end past ls) past ls
   unfolding certificate_from
-  all_lines [] past s ag = ap (λ stage. refusal_in (ended end s stage)) ag.stage ∙ no_end graph names s end past
+  all_lines [] past s ag = ap (λ stage. ended end s stage) ag.stage ∙ no_end graph names s end past ag
   all_lines (l ∷ ls) past s ag =
       goes_on l ls (cons_option (said_on l.words) past) (λ next agrees. all_lines ls (cons_option (said_on l.words) past) next agrees)
       (with_line graph.edges (router_named names) s l.words) (line_fault graph names past l.words) (line_at graph names s past ag l.words)
@@ -192,4 +207,4 @@ pub first_line_decides : FirstLineDecides
 unfolding certificate_of_text
 first_line_decides graph names bs =
     all_lines graph names (length (all_lines_of bs) + 1) (map (text_line bs) (all_lines_of bs)) [] (opening graph)
-    (record { stage = refl; blocks = refl; named = refl })
+    (record { stage = refl; blocks = refl; named = refl; splits = refl })

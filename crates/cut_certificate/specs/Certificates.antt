@@ -9,7 +9,8 @@ use Rattle.cut_certificate.specs.Blocks.{Blocks, first_blocks, groups_of, split_
 -- the blocks after splits, each of which can be made when its turn comes
 abbrev pub AreAfter : ActGraph → Blocks → List Split → Blocks → Type 0
 AreAfter graph blocks [] last = blocks ≡ last
-AreAfter graph blocks (split ∷ splits) last = (next : Blocks) × (split.edge < length graph.edges) × (split_by graph.edges blocks split ≡ Ok next) × AreAfter graph next splits last
+AreAfter graph blocks (split ∷ splits) last =
+    (next : Blocks) × (split.edge < length graph.edges) × (split_by graph.edges blocks split ≡ Ok next) × AreAfter graph next splits last
 
 -- the splits can be made from the blocks of equal color on, and their blocks are the groups and are admissible
 pub record IsAccepted (graph : ActGraph) (c : Certificate) : Type 0 where

@@ -25,7 +25,8 @@ pub record AreSameButColors (first second : ActGraph) : Type 0 where
 
 -- In such graphs a text spells the same certificate, or has the same fault.
 abbrev pub ColorsAreAside : Type 0
-ColorsAreAside = (first second : ActGraph) → AreSameButColors first second → (names : List (List ℕ)) (bs : List ℕ) → certificate_of_text first names bs ≡ certificate_of_text second names bs
+ColorsAreAside = (first second : ActGraph) → AreSameButColors first second → (names : List (List ℕ)) (bs : List ℕ)
+    → certificate_of_text first names bs ≡ certificate_of_text second names bs
 
 -- ---- certificates of groups that are not admissible
 
@@ -55,4 +56,5 @@ pub record IsNotAdmissibleAt (graph : ActGraph) (names : List (List ℕ)) (bs : 
 
 -- A text is refused as not admissible only if its groups are not admissible.
 abbrev pub NotAdmissibleIsSo : Type 0
-NotAdmissibleIsSo = (graph : ActGraph) (names : List (List ℕ)) (bs : List ℕ) (line : ℕ) → certificate_of_text graph names bs ≡ Err (At line NotAdmissible) → IsNotAdmissibleAt graph names bs line
+NotAdmissibleIsSo = (graph : ActGraph) (names : List (List ℕ)) (bs : List ℕ) (line : ℕ)
+    → certificate_of_text graph names bs ≡ Err (At line NotAdmissible) → IsNotAdmissibleAt graph names bs line

@@ -1,11 +1,12 @@
 -- The faults of the lines of a certificate: each line is judged by what the lines before it say, and the
--- first line with a fault decides.
-use Rattle.std.specs.Prelude.{◌≡◌, ℕ, ◌+◌, Bool, true, false, ◌==◌, List, [], ◌∷◌, length, map, if◌then◌else◌, Option, Some, None, Result, Ok, Err, slice_get}
+-- first line with a fault decides. Lines without a fault spell their splits, and the groups of the blocks behind them.
+use Rattle.std.specs.Prelude.{◌≡◌, ℕ, ◌+◌, Bool, true, false, ◌==◌, List, [], ◌∷◌, ◌++◌, length, map, Option, Some, None, Result, Ok, Err, slice_get}
 use Rattle.std.specs.List.{cons_option}
 use Rattle.base_kit.specs.declared.act_graph.ActGraph.{ActGraph}
 use Rattle.cfg_ast.specs.text.TextLines.{TextLine, text_line}
 use Rattle.cfg_ast.specs.text.Members.{all_lines_of}
 use Rattle.cut_certificate.specs.declared.certificate.Split.{Split}
+use Rattle.cut_certificate.specs.declared.certificate.Certificate.{Certificate}
 use Rattle.cut_certificate.specs.declared.refusal.CutKind.{CutKind}
 use Rattle.cut_certificate.specs.declared.refusal.CutKind.TheVariants.{BadForm, UnknownRouter, NoEdge, WrongGroups, NotAdmissible, NoEnd}
 use Rattle.cut_certificate.specs.declared.refusal.CutRefusal.{CutRefusal}
@@ -64,6 +65,18 @@ blocks_behind graph names [] = first_blocks graph
 blocks_behind graph names (Divide block by name link ∷ past) =
     divided graph (blocks_behind graph names past) block by (edge_by_name graph names (router_named names name) link)
 blocks_behind graph names (said ∷ past) = blocks_behind graph names past
+
+-- the splits so far, and one by the edge at a place
+abbrev pub split_more : List Split → ℕ → ℕ → Option ℕ → List Split
+split_more splits block by None = splits
+split_more splits block by (Some place) = splits ++ split_at block by place ∷ []
+
+-- the splits, in their order
+abbrev pub splits_said : ActGraph → List (List ℕ) → List CertificateLine → List Split
+splits_said graph names [] = []
+splits_said graph names (Divide block by name link ∷ past) =
+    split_more (splits_said graph names past) block by (edge_by_name graph names (router_named names name) link)
+splits_said graph names (said ∷ past) = splits_said graph names past
 
 -- ---- the fault of a line
 
@@ -133,12 +146,25 @@ first_refusal graph names end past [] = at_line end (unless (is_ended past) NoEn
 first_refusal graph names end past (l ∷ ls) =
     at_line l.number (line_fault graph names past l.words) (first_refusal graph names end (cons_option (said_on l.words) past) ls)
 
--- the fault, where there is one
-abbrev pub refusal_in : {X : Type 0} → Result X CutRefusal → Option CutRefusal
-refusal_in (Ok x) = None
-refusal_in (Err fault) = Some fault
+-- ---- all lines
 
--- A text is refused with the first fault of its lines, each judged by the lines before it, and with no other.
+-- what all lines say
+abbrev pub lines_said : List CertificateLine → List TextLine → List CertificateLine
+lines_said past [] = past
+lines_said past (l ∷ ls) = lines_said (cons_option (said_on l.words) past) ls
+
+-- the splits, and the groups of the blocks behind them
+abbrev pub certificate_said : ActGraph → List (List ℕ) → List CertificateLine → Certificate
+certificate_said graph names past = record { splits = splits_said graph names past; groups = groups_of (blocks_behind graph names past).numbers }
+
+-- the certificate, unless there is a fault
+abbrev pub unless_at_fault : Option CutRefusal → Certificate → Result Certificate CutRefusal
+unless_at_fault None c = Ok c
+unless_at_fault (Some fault) c = Err fault
+
+-- A text is refused with the first fault of its lines, each judged by the lines before it, and with no other. Without a fault
+-- it spells the splits that its lines say.
 abbrev pub FirstLineDecides : Type 0
-FirstLineDecides = (graph : ActGraph) (names : List (List ℕ)) (bs : List ℕ) → refusal_in (certificate_of_text graph names bs)
-    ≡ first_refusal graph names (length (all_lines_of bs) + 1) [] (map (text_line bs) (all_lines_of bs))
+FirstLineDecides = (graph : ActGraph) (names : List (List ℕ)) (bs : List ℕ) → certificate_of_text graph names bs
+    ≡ unless_at_fault (first_refusal graph names (length (all_lines_of bs) + 1) [] (map (text_line bs) (all_lines_of bs)))
+    (certificate_said graph names (lines_said [] (map (text_line bs) (all_lines_of bs))))

@@ -53,7 +53,8 @@ pub record AreHeld (numbers : List ℕ) (count : ℕ) (lists : List (Vec ℕ Glo
 
 -- each edge stands in the list of its exporter
 pub record HasIncoming (edges : List Edge) (lists : List (Vec Placed Global)) : Type 0 where
-  pub each : (e : Edge) (d : Vec Placed Global) → Contains edges e → e.exporter < length lists → (p : Placed) × Contains (slice_index_or lists e.exporter d).items p × (p.edge ≡ e)
+  pub each : (e : Edge) (d : Vec Placed Global) → Contains edges e → e.exporter < length lists
+      → (p : Placed) × Contains (slice_index_or lists e.exporter d).items p × (p.edge ≡ e)
 
 -- a list for each router
 pub record AreIncoming (graph : ActGraph) (lists : List (Vec Placed Global)) : Type 0 where
@@ -67,7 +68,8 @@ pub record AreAdded (old new : List ℕ) (edges : List Placed) (act : ℕ) : Typ
 
 -- the importers of the edges from the listed routers that act so
 pub record HasImporters (lists : List (Vec Placed Global)) (list : List ℕ) (act : ℕ) (found : List ℕ) : Type 0 where
-  pub each : (x : ℕ) (d : Vec Placed Global) (p : Placed) → Contains list x → Contains (slice_index_or lists x d).items p → p.edge.act ≡ act → Contains found p.edge.importer
+  pub each : (x : ℕ) (d : Vec Placed Global) (p : Placed) → Contains list x → Contains (slice_index_or lists x d).items p
+      → p.edge.act ≡ act → Contains found p.edge.importer
 
 -- the movers have the next number, and all others what they had
 pub record AreRenumbered (old movers : List ℕ) (next : ℕ) (new : List ℕ) : Type 0 where

@@ -16,7 +16,8 @@ pub fn not_admissible_is_so()
 {}
 
 /// A text is refused with the fault of its first line that has one, or else because the line `end` is
-/// missing. Each line is judged by the lines before it.
+/// missing. Each line is judged by the lines before it. A text without a fault spells the splits that its
+/// lines say, and the groups of the blocks behind them.
 pub fn first_line_decides()
     ensures { FirstLineDecides }
 {}
