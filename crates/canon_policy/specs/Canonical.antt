@@ -24,7 +24,8 @@ use Rattle.canon_policy.specs.Entries.{in_entry, out_entry}
 abbrev pub differs_with_outside : List ℕ → (List ℕ → Option Imported) → List ℕ → Bool
 differs_with_outside universe f set =
     let more = with_number (outside_of universe) set in
-    not (nat_eq (preference f set) (preference f more)) || (not (nat_eq (added_count f set) (added_count f more)) || list_any (λ c. not (beq (carries f c set) (carries f c more))) universe)
+    not (nat_eq (preference f set) (preference f more))
+    || (not (nat_eq (added_count f set) (added_count f more)) || list_any (λ c. not (beq (carries f c set) (carries f c more))) universe)
 
 unfoldable pub depends_on_others : List ℕ → (List ℕ → Option Imported) → Bool
 depends_on_others universe f = list_any (differs_with_outside universe f) (sets_of universe)

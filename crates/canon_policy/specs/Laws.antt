@@ -16,7 +16,8 @@ use Rattle.srp_core.specs.ActMaps.{IsPrintableAct, IsActWithin}
 
 -- Functions that import every set alike have equal lists.
 abbrev pub EqualFunctionsHaveEqualLists : Type 0
-EqualFunctionsHaveEqualLists = (universe : List ℕ) (f g : List ℕ → Option Imported) → AreOneImport f g → canonical_lists_of universe f ≡ canonical_lists_of universe g
+EqualFunctionsHaveEqualLists = (universe : List ℕ) (f g : List ℕ → Option Imported) → AreOneImport f g
+    → canonical_lists_of universe f ≡ canonical_lists_of universe g
 
 -- The same holds of functions over two universes, if each is uniform over its own: the universe does not
 -- matter.
@@ -28,13 +29,17 @@ UniverseDoesNotMatter = (universe other : List ℕ) (f g : List ℕ → Option I
 -- acts, or neither has one. This holds for all maps by which the acts were given, and for all other
 -- communities that the networks name.
 abbrev pub AlikeActsAreWrittenAlike : Type 0
-AlikeActsAreWrittenAlike = (universe other : List ℕ) (first second : Act) → IsAscending universe → IsAscending other → IsPrintableAct first → IsPrintableAct second
+AlikeActsAreWrittenAlike = (universe other : List ℕ) (first second : Act) → IsAscending universe → IsAscending other
+    → IsPrintableAct first → IsPrintableAct second
     → IsActWithin universe first → IsActWithin other second → ActsAlike first second → canonical_act universe first ≡ canonical_act other second
 
 -- The canonical lists of a function import every set as it does. Communities are sent.
 abbrev pub CanonicalListsImportAlike : Type 0
-CanonicalListsImportAlike = (universe : List ℕ) (f : List ℕ → Option Imported) (lists : CanonEdge) → IsAscending universe → IsPlain universe (on_sets f) → canonical_lists_of universe f ≡ Some lists → AreOneImport (import_of lists.out true lists.into) f
+CanonicalListsImportAlike = (universe : List ℕ) (f : List ℕ → Option Imported) (lists : CanonEdge) → IsAscending universe → IsPlain universe (on_sets f)
+    → canonical_lists_of universe f ≡ Some lists → AreOneImport (import_of lists.out true lists.into) f
 
 -- So functions with equal lists import every set alike.
 abbrev pub EqualListsMeanEqualFunctions : Type 0
-EqualListsMeanEqualFunctions = (universe : List ℕ) (f g : List ℕ → Option Imported) (lists : CanonEdge) → IsAscending universe → IsPlain universe (on_sets f) → IsPlain universe (on_sets g) → canonical_lists_of universe f ≡ Some lists → canonical_lists_of universe g ≡ Some lists → AreOneImport f g
+EqualListsMeanEqualFunctions = (universe : List ℕ) (f g : List ℕ → Option Imported) (lists : CanonEdge) → IsAscending universe
+    → IsPlain universe (on_sets f) → IsPlain universe (on_sets g) → canonical_lists_of universe f ≡ Some lists
+    → canonical_lists_of universe g ≡ Some lists → AreOneImport f g

@@ -83,7 +83,8 @@ count_in shown set (case ∷ cases) = if value_of shown set case.1 then case.0 e
 -- all.
 abbrev pub names_made : Shown → EdgeFn → Fixing → List ℕ
 names_made shown edge fixing =
-    if value_of shown fixing.present edge.rest then filter (is_not_present fixing) (carried_in shown fixing.present edge.outs) else carried_in shown fixing.present edge.outs
+    if value_of shown fixing.present edge.rest then filter (is_not_present fixing) (carried_in shown fixing.present edge.outs)
+    else carried_in shown fixing.present edge.outs
 
 abbrev pub change_made : Shown → EdgeFn → Fixing → Option Change
 change_made shown edge fixing =

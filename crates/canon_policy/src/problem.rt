@@ -14,7 +14,7 @@ use crate::lists::CanonRefusal;
 use base_kit::{List, NoMemory};
 use dd_core::Store;
 use policy_dd::edge_fn;
-use srp_core::{Act, Route, Srp, names_copy};
+use srp_core::{Act, Route, Srp, acts_copy, names_copy};
 use std::alloc::{AllocError, Global};
 use thiserror::Error;
 
@@ -156,22 +156,12 @@ fn canonical_acts(alloc: Global, srp: &Srp, store: &mut Store) -> Result<List<Ac
     ensures acts { AreCanonicalActsOr store.old.universe srp.now result }
 {
     let _known = srp.count();
-    let mut made = acts_copy(alloc, srp.acts())?;
+    let mut made = acts_copy(alloc, srp.acts())?.into_vec();
     let mut done = vec![in alloc; false; srp.acts().len()]?;
     for place in 0..srp.edges().len() {
         make_act(alloc, srp, store, &mut made, &mut done, place)?;
     }
     Ok(List::from_vec(made))
-}
-
-fn acts_copy(alloc: Global, acts: &[Act]) -> Result<Vec<Act>, NoMemory>
-    ensures { IfOk result (λ copies. copies.items ≡ acts.now) }
-{
-    let mut copies = Vec::new(alloc);
-    for act in acts {
-        copies.push(act.copy(alloc)?)?;
-    }
-    Ok(copies)
 }
 
 fn start_copy(alloc: Global, start: &Option<Route>) -> Result<Option<Route>, NoMemory>
