@@ -28,7 +28,7 @@ fn names_no_list(router: &Router, places: &Places, name: &Text) -> bool
 }
 
 /// Whether neither the line nor its map names a prefix list. If so, the map of the line is the same for
-/// every prefix.
+/// every prefix. `false` promises nothing: the map is then made for each prefix, which costs time alone.
 pub fn is_fixed(router: &Router, places: &Places, inbound: bool, line: &Neighbor) -> bool
     requires { ArePlacesOfRouter router.now places.now }
     ensures { result ≡ true → IsSameForEachPrefix router.now inbound line.now }

@@ -121,7 +121,8 @@ impl<'a> Seen<'a> {
     }
 
     /// The number of an earlier line that names the same map and the same list. Most often that is the
-    /// line before.
+    /// line before. `None` promises nothing: the line then gets a policy of its own, which costs time
+    /// alone.
     pub fn known_number(
         &mut self,
         inbound: bool,

@@ -1,3 +1,5 @@
+-- Each turn of the loop gives a group its route: the groups of smaller labels have theirs, so that the path is known. What the
+-- groups have is a part of the fold after each turn, and the whole of it after the last one.
 use Rattle.std.proofs.Common.{◌<◌, ℕ, List, length, get_or, Option, None, refl, ap, sym, ◌∙◌, subst, arith}
 use Rattle.std.specs.Prelude.{slice_index, slice_set, replicate}
 use Rattle.std.specs.List.{range_with_len}

@@ -1,3 +1,5 @@
+-- Each call gets what it asks for, from the directions of the class to the maps, the edges and the lone routers. What is built
+-- of their results is the problem of the class, by its definition.
 use Rattle.std.proofs.Common.{◌≡◌, ◌≤◌, ◌<◌, ◌^◌, ◌∙◌, List, map, length, refl, sym, ap, subst}
 use Rattle.std.specs.Prelude.{All}
 use Rattle.base_kit.specs.declared.act_graph.Edge.{Edge}
