@@ -18,7 +18,8 @@ use Rattle.answer_certificates.specs.Verified.{IsVerifyAnswer}
 
 -- `verify` says yes to what `certify` writes.
 abbrev pub VerifiesWhatIsCertified : Type 0
-VerifiesWhatIsCertified = (network : Network) → ∥ IsGiven network ∥₁ → IsFaultless network → (number : ℕ) (bytes : List ℕ) → IsCertifyAnswer network number (done bytes) → IsVerifyAnswer network number (Some bytes) (done (codes "yes\n"))
+VerifiesWhatIsCertified = (network : Network) → ∥ IsGiven network ∥₁ → IsFaultless network → (number : ℕ) (bytes : List ℕ)
+    → IsCertifyAnswer network number (done bytes) → IsVerifyAnswer network number (Some bytes) (done (codes "yes\n"))
 
 -- the text spells a certificate whose groups are those of the class, the coarsest admissible partition
 pub record NamesTheGroups (network : Network) (number : ℕ) (text : List ℕ) : Type 0 where
@@ -35,4 +36,5 @@ pub record NamesTheGroups (network : Network) (number : ℕ) (text : List ℕ) :
 
 -- A text to which `verify` says yes names the groups of the class.
 abbrev pub VerifiedNamesTheGroups : Type 0
-VerifiedNamesTheGroups = (network : Network) (number : ℕ) (text : List ℕ) → IsVerifyAnswer network number (Some text) (done (codes "yes\n")) → NamesTheGroups network number text
+VerifiedNamesTheGroups = (network : Network) (number : ℕ) (text : List ℕ)
+    → IsVerifyAnswer network number (Some text) (done (codes "yes\n")) → NamesTheGroups network number text

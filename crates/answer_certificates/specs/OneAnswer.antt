@@ -6,4 +6,5 @@ use Rattle.answer_certificates.specs.Verified.{IsVerifyAnswer}
 
 -- two answers of `verify` are equal
 abbrev pub VerifyAnswerIsOne : Type 0
-VerifyAnswerIsOne = (network : Network) (number : ℕ) (second : Option (List ℕ)) → IsSome second → (o p : Outcome) → IsVerifyAnswer network number second o → IsVerifyAnswer network number second p → o ≡ p
+VerifyAnswerIsOne = (network : Network) (number : ℕ) (second : Option (List ℕ)) → IsSome second → (o p : Outcome)
+    → IsVerifyAnswer network number second o → IsVerifyAnswer network number second p → o ≡ p

@@ -46,7 +46,9 @@ pub record IsReadAsLift (network : Network) (number : ℕ) (text bytes : List �
   pub correspond : Corresponds sides.problem sides.small sides.groups labels lower
 
 abbrev pub FoldIsReadBack : Type 0
-FoldIsReadBack = (network : Network) → ∥ IsGiven network ∥₁ → IsFaultless network → (number : ℕ) (text bytes : List ℕ) → IsFoldAnswer network number (Some text) (done bytes) → IsReadAsFold network number text bytes
+FoldIsReadBack = (network : Network) → ∥ IsGiven network ∥₁ → IsFaultless network → (number : ℕ) (text bytes : List ℕ)
+    → IsFoldAnswer network number (Some text) (done bytes) → IsReadAsFold network number text bytes
 
 abbrev pub LiftIsReadBack : Type 0
-LiftIsReadBack = (network : Network) → ∥ IsGiven network ∥₁ → IsFaultless network → (number : ℕ) (text bytes : List ℕ) → IsLiftAnswer network number (Some text) (done bytes) → IsReadAsLift network number text bytes
+LiftIsReadBack = (network : Network) → ∥ IsGiven network ∥₁ → IsFaultless network → (number : ℕ) (text bytes : List ℕ)
+    → IsLiftAnswer network number (Some text) (done bytes) → IsReadAsLift network number text bytes

@@ -24,4 +24,5 @@ leaves_free (Some command) = is_free command
 
 -- two outcomes that the words allow over files that are told are equal, if nothing is free
 abbrev pub OutcomeIsOne : Type 0
-OutcomeIsOne = (words : List (List ℕ)) (contents : List ℕ → Option (List ℕ)) → AreTold words contents → leaves_free (command_of words) ≡ false → (o p : Outcome) → IsOutcome words contents o → IsOutcome words contents p → o ≡ p
+OutcomeIsOne = (words : List (List ℕ)) (contents : List ℕ → Option (List ℕ)) → AreTold words contents
+    → leaves_free (command_of words) ≡ false → (o p : Outcome) → IsOutcome words contents o → IsOutcome words contents p → o ≡ p

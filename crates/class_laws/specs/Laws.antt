@@ -8,4 +8,5 @@ use Rattle.srp_build.specs.Built.{IsBuiltFor}
 
 -- two problems that are built for a class are equal
 abbrev pub BuiltProblemIsOne : Type 0
-BuiltProblemIsOne = (network : Network) (class : DestClass) → Contains (classes_of network) class → (first second : Problem) → IsBuiltFor network class first → IsBuiltFor network class second → first ≡ second
+BuiltProblemIsOne = (network : Network) (class : DestClass) → Contains (classes_of network) class → (first second : Problem)
+    → IsBuiltFor network class first → IsBuiltFor network class second → first ≡ second

@@ -30,7 +30,8 @@ compressed_text e = printed (emitted e) (notes_of e)
 -- It compresses the network, if the groups are the coarsest and it has at most 1,000,000 lines and
 -- 16,777,216 bytes.
 abbrev pub TextCompresses : Type 0
-TextCompresses = (e : Plan) → IsPlan e → IsCoarsest e.problem e.groups → HasFewLines (emitted e) (notes_of e) → length (compressed_text e) ≤ 16777216 → Compresses e.network e.class (compressed_text e)
+TextCompresses = (e : Plan) → IsPlan e → IsCoarsest e.problem e.groups → HasFewLines (emitted e) (notes_of e)
+    → length (compressed_text e) ≤ 16777216 → Compresses e.network e.class (compressed_text e)
 
 -- A problem by which a class can be written: that of every prefix of the class, with acts whose maps can be
 -- printed and name only communities that the network names.
@@ -58,11 +59,14 @@ FittingPlanCompresses = (n : Network) (class : DestClass) (e : Plan)
 -- A plan of a class of a network that may be used fits together, if no prefix of the class meets the
 -- addresses of the links.
 abbrev pub PlanFits : Type 0
-PlanFits = (n : Network) (class : DestClass) (e : Plan) → ∥ IsGiven n ∥₁ → IsFaultless n → Contains (classes_of n) class → IsPlanOf n class e → pool_line n class ≡ None → IsPlan e
+PlanFits = (n : Network) (class : DestClass) (e : Plan) → ∥ IsGiven n ∥₁ → IsFaultless n → Contains (classes_of n) class
+    → IsPlanOf n class e → pool_line n class ≡ None → IsPlan e
 
 -- A text of the plan of a class of a network that may be used compresses that network.
 abbrev pub PlanCompresses : Type 0
-PlanCompresses = (n : Network) (class : DestClass) (e : Plan) → ∥ IsGiven n ∥₁ → IsFaultless n → Contains (classes_of n) class → IsPlanOf n class e → pool_line n class ≡ None → is_too_long (compressed_text e) ≡ false → Compresses n class (compressed_text e)
+PlanCompresses = (n : Network) (class : DestClass) (e : Plan) → ∥ IsGiven n ∥₁ → IsFaultless n → Contains (classes_of n) class
+    → IsPlanOf n class e → pool_line n class ≡ None → is_too_long (compressed_text e) ≡ false
+    → Compresses n class (compressed_text e)
 
 -- The text of a plan is read as a network that has, for each prefix of the class, the problem of the groups.
 pub record HasProblemOfGroups (e : Plan) : Type 0 where
@@ -72,4 +76,6 @@ pub record HasProblemOfGroups (e : Plan) : Type 0 where
 
 -- So is the text of a plan of a class of a network that may be used.
 abbrev pub TextHasProblemOfGroups : Type 0
-TextHasProblemOfGroups = (n : Network) (class : DestClass) (e : Plan) → ∥ IsGiven n ∥₁ → IsFaultless n → Contains (classes_of n) class → IsPlanOf n class e → pool_line n class ≡ None → is_too_long (compressed_text e) ≡ false → HasProblemOfGroups e
+TextHasProblemOfGroups = (n : Network) (class : DestClass) (e : Plan) → ∥ IsGiven n ∥₁ → IsFaultless n
+    → Contains (classes_of n) class → IsPlanOf n class e → pool_line n class ≡ None → is_too_long (compressed_text e) ≡ false
+    → HasProblemOfGroups e
