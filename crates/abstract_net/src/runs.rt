@@ -1,6 +1,6 @@
 //! Steps between the same two groups, put together as their links.
 
-ghost use Rattle.std.specs.Prelude.{◌≡◌, ℕ, ◌<◌, ◌≤◌, ◌++◌, ◌∷◌, List, true, false, IfOk, OnOk, length, slice_get, slice_index_or, nat_eq};
+ghost use Rattle.std.specs.Prelude.{◌≡◌, ℕ, ◌<◌, ◌≤◌, ◌++◌, [], ◌∷◌, List, true, false, IfOk, IfSome, OnOk, length, slice_get, slice_index_or, nat_eq};
 ghost use Rattle.std.specs.HashSet as set;
 ghost use Rattle.abstract_net.specs.Links.{joined_sides};
 ghost use Rattle.abstract_net.specs.GroupSteps.{first_new, edges_into, links_of_run, links_of_steps, same_ends};
@@ -63,9 +63,63 @@ fn push_joined(
     Ok(())
 }
 
+// The link of a step that is alone between its groups.
+fn link_of_one(step: &Step) -> QLink
+    ensures { links_of_run (step.now ∷ []) ≡ result ∷ [] }
+{
+    if step.into_low {
+        return QLink {
+            low: step.low,
+            high: step.high,
+            to_low: Some(step.edge),
+            to_high: None,
+        };
+    }
+    QLink {
+        low: step.low,
+        high: step.high,
+        to_low: None,
+        to_high: Some(step.edge),
+    }
+}
+
+// The link of two steps between the same groups, if they lead in both directions.
+fn link_of_two(first: &Step, second: &Step) -> Option<QLink>
+    ensures { IfSome result (λ link. links_of_run (first.now ∷ second.now ∷ []) ≡ link ∷ []) }
+{
+    if first.into_low == second.into_low {
+        return None;
+    }
+    let (to_low, to_high) = if first.into_low {
+        (first.edge, second.edge)
+    } else {
+        (second.edge, first.edge)
+    };
+    Some(QLink {
+        low: first.low,
+        high: first.high,
+        to_low: Some(to_low),
+        to_high: Some(to_high),
+    })
+}
+
+// The link of a run of one or two steps that have no other. Most runs are of this form, and need no table.
+fn single_link(run: &[Step]) -> Option<QLink>
+    ensures { IfSome result (λ link. links_of_run run.now ≡ link ∷ []) }
+{
+    match run {
+        [only] => Some(link_of_one(only)),
+        [first, second] => link_of_two(first, second),
+        _ => None,
+    }
+}
+
 fn push_run(alloc: Global, links: &mut List<QLink>, run: &[Step]) -> Result<(), NoMemory>
     ensures { OnOk result (links.new ≡ links.old ++ links_of_run run.now) }
 {
+    if let Some(link) = single_link(run) {
+        return links.push(link);
+    }
     let Some(first) = run.first() else {
         return Ok(());
     };
