@@ -2,6 +2,7 @@ pub mod NumberingLemmas
 pub mod MemberLemmas
 pub mod ArrivalLemmas
 pub mod ClassLemmas
+mod ClassNameLemmas
 pub mod QueueLemmas
 pub mod RenumberLemmas
 pub mod PlanLemmas

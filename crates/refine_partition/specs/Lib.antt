@@ -4,6 +4,7 @@ pub mod Splits
 pub mod Index
 pub mod Members
 pub mod Arrivals
+pub mod ClassNames
 pub mod Classes
 pub mod Touched
 pub mod Renumbering

@@ -1,36 +1,36 @@
 //! Routers in classes by the acts of their edges into one block.
 
-ghost use Rattle.std.specs.Prelude.{◌≡◌, ℕ, ◌<◌, ◌≤◌, ◌+◌, ◌^◌, All, IfOk, IfSome, OnOk, Some, length, nat_eq, slice_index_or};
-ghost use Rattle.std.specs.HashMap.{get};
+ghost use Rattle.std.specs.Prelude.{◌≡◌, ℕ, ◌<◌, ◌≤◌, ◌+◌, ◌^◌, All, IfOk, IfSome, OnOk, Some, length, slice_index_or};
 ghost use Rattle.std.specs.List.Sorted.{IsNonDecreasingBy};
+ghost use Rattle.refine_partition.specs.ClassNames.{name_of};
 ghost use Rattle.refine_partition.specs.Arrivals.{act_of_import};
 ghost use Rattle.refine_partition.specs.Classes.{IsNamed, IsNoted, IsSeparated, AreClasses, AreReached};
 ghost use Rattle.refine_partition.specs.declared.imports.Import.{Import as AnImport};
 
+use crate::class_names::ClassNames;
 use crate::imports::Import;
 use base_kit::NoMemory;
 use std::alloc::Global;
-use std::collections::HashMap;
 
 /// The name of the class, which is the next one where the class has none yet.
-fn name_of(names: &mut HashMap<usize, usize>, class: usize, next: usize) -> Result<usize, NoMemory>
+fn name_of(names: &mut ClassNames<usize>, class: usize, next: usize) -> Result<usize, NoMemory>
     ensures { IfOk result (λ name. IsNamed names.old names.new class next name) }
 {
-    if let Some(name) = names.get(&class).copied() {
+    if let Some(name) = names.name(class) {
         return Ok(name);
     }
-    names.insert(class, next)?;
+    names.put(class, next)?;
     Ok(next)
 }
 
 /// The name of the class, which needs no look-up where it is the last one that had one.
 fn name_after(
-    names: &mut HashMap<usize, usize>,
+    names: &mut ClassNames<usize>,
     last: Option<(usize, usize)>,
     class: usize,
     next: usize,
 ) -> Result<usize, NoMemory>
-    requires last { IfSome last (λ l. get nat_eq names.old l.0 ≡ Some l.1) }
+    requires last { IfSome last (λ l. name_of names.old l.0 ≡ Some l.1) }
     ensures { IfOk result (λ name. IsNamed names.old names.new class next name) }
 {
     match last {
@@ -67,7 +67,7 @@ fn separate(
     ensures separated { IfOk result (λ next. IsSeparated classes.old.items classes.new.items movers.now fresh next) }
     ensures reached { IfOk result (λ next. AreReached classes.new.items count reached.new.items) }
 {
-    let mut names = HashMap::new(alloc);
+    let mut names = ClassNames::new(alloc);
     let mut next = fresh;
     let mut last = None;
     for mover in movers {

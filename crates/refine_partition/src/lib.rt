@@ -20,6 +20,7 @@
 
 mod arrivals;
 mod blocks;
+mod class_names;
 mod classes;
 mod division;
 mod graph_view;

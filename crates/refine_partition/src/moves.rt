@@ -1,21 +1,21 @@
 //! Moving the routers that edges reach into the pieces of their classes.
 
-ghost use Rattle.std.specs.Prelude.{◌≡◌, ℕ, ◌<◌, ◌+◌, ◌^◌, All, Contains, IfOk, IfSome, OnOk, Some, length, nat_eq, slice_index};
-ghost use Rattle.std.specs.HashMap.{get};
+ghost use Rattle.std.specs.Prelude.{◌≡◌, ℕ, ◌<◌, ◌+◌, ◌^◌, All, Contains, IfOk, IfSome, OnOk, Some, length, slice_index};
 ghost use Rattle.std.specs.List.Sorted.{IsStrictlyIncreasing};
+ghost use Rattle.refine_partition.specs.ClassNames.{name_of};
 ghost use Rattle.refine_partition.specs.Classes.{AreNewClasses};
 ghost use Rattle.refine_partition.specs.Loose.{AreListed, AreMoved, AreUsed, IsMoved, IsPieceOf};
 ghost use Rattle.refine_partition.specs.Touched.{AreTouched};
 
+use crate::class_names::ClassNames;
 use crate::staying::{name_class, staying_classes};
 use base_kit::NoMemory;
 use std::alloc::Global;
-use std::collections::HashMap;
 
 /// The number of a class: that of a new, empty block where it has none yet.
 fn piece_of(
     alloc: Global,
-    names: &mut HashMap<usize, u32>,
+    names: &mut ClassNames<u32>,
     lists: &mut Vec<Vec<u32>>,
     origins: &mut Vec<u32>,
     class: usize,
@@ -24,7 +24,7 @@ fn piece_of(
     requires few { length lists.old.items < 2 ^ 32 }
     ensures { IfOk result (λ number. IsPieceOf names.old names.new lists.old.items lists.new.items origins.old.items origins.new.items class origin number) }
 {
-    if let Some(number) = names.get(&class).copied() {
+    if let Some(number) = names.name(class) {
         return Ok(number);
     }
     let number = lists.len() as u32;
@@ -37,7 +37,7 @@ fn piece_of(
 /// The number of a class, which needs no look-up where it is the last one that had one.
 fn piece_after(
     alloc: Global,
-    names: &mut HashMap<usize, u32>,
+    names: &mut ClassNames<u32>,
     last: Option<(usize, u32)>,
     lists: &mut Vec<Vec<u32>>,
     origins: &mut Vec<u32>,
@@ -45,7 +45,7 @@ fn piece_after(
     origin: u32,
 ) -> Result<u32, NoMemory>
     requires few { length lists.old.items < 2 ^ 32 }
-    requires last { IfSome last (λ l. get nat_eq names.old l.0 ≡ Some l.1) }
+    requires last { IfSome last (λ l. name_of names.old l.0 ≡ Some l.1) }
     ensures { IfOk result (λ number. IsPieceOf names.old names.new lists.old.items lists.new.items origins.old.items origins.new.items class origin number) }
 {
     match last {

@@ -4,9 +4,9 @@ ghost use Rattle.std.specs.Prelude.{◌≡◌, ◌<◌, All, IfOk, OnOk, length}
 ghost use Rattle.std.specs.List.Sorted.{IsStrictlyIncreasing};
 ghost use Rattle.refine_partition.specs.Loose.{AreFiner, AreListed, AreStaying, AreUsed, HasMember, IsNamedAs, IsStayingClass, IsStillListed};
 
+use crate::class_names::ClassNames;
 use base_kit::NoMemory;
 use std::alloc::Global;
-use std::collections::HashMap;
 
 /// The class of a block's members that keeps its number: that of the members that no edge reaches, where
 /// there are any. Routers that have left the block are dropped from its list where they are met.
@@ -32,15 +32,10 @@ fn staying_class(list: &mut Vec<u32>, numbers: &[u32], classes: &[usize], block:
 }
 
 /// Gives the class this number.
-pub fn name_class(
-    names: &mut HashMap<usize, u32>,
-    class: usize,
-    number: u32,
-) -> Result<(), NoMemory>
+pub fn name_class(names: &mut ClassNames<u32>, class: usize, number: u32) -> Result<(), NoMemory>
     ensures { OnOk result (IsNamedAs names.old names.new class number) }
 {
-    names.insert(class, number)?;
-    Ok(())
+    names.put(class, number)
 }
 
 /// The classes that keep the numbers of these blocks.
@@ -50,7 +45,7 @@ pub fn staying_classes(
     numbers: &[u32],
     classes: &[usize],
     blocks: &[u32],
-) -> Result<HashMap<usize, u32>, NoMemory>
+) -> Result<ClassNames<u32>, NoMemory>
     requires listed { AreListed numbers.now lists.old.items }
     requires used { AreUsed (length lists.old.items) numbers.now }
     requires one_class_each { length classes.now ≡ length numbers.now }
@@ -61,7 +56,7 @@ pub fn staying_classes(
     ensures listed { IfOk result (λ names. AreListed numbers.now lists.new.items) }
     ensures staying { IfOk result (AreStaying numbers.now classes.now blocks.now) }
 {
-    let mut names = HashMap::new(alloc);
+    let mut names = ClassNames::new(alloc);
     for block in blocks {
         let class = staying_class(&mut lists[*block as usize], numbers, classes, *block);
         name_class(&mut names, class, *block)?;

@@ -1,6 +1,6 @@
-use Rattle.std.proofs.Common.{◌≡◌, ◌+◌, length, take, nat_eq, IfSome, Some}
-use Rattle.std.specs.HashMap.{get}
+use Rattle.std.proofs.Common.{◌≡◌, ◌+◌, length, take, IfSome, Some}
 use Rattle.refine_partition.specs.Loose.{AreListed}
+use Rattle.refine_partition.specs.ClassNames.{name_of}
 use Rattle.refine_partition.proofs.MoveLemmas.{Moving}
 use Rattle.refine_partition.proofs.moves.move_reached.Given as goal
 
@@ -9,6 +9,6 @@ invariant-loop-router l = record {
   total : length l.lists.items ≡ length l.initial.lists.items + length l.origins.items;
   listed : AreListed l.numbers.items l.lists.items;
   moving : Moving l.initial.numbers.items l.classes l.touched (take l.router-index l.reached) (length l.initial.lists.items) l.numbers.items l.origins.items
-      (λ class. get nat_eq l.names class);
-  last : IfSome l.last (λ x. get nat_eq l.names x.0 ≡ Some x.1);
+      (λ class. name_of l.names class);
+  last : IfSome l.last (λ x. name_of l.names x.0 ≡ Some x.1);
 }

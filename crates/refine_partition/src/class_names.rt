@@ -1,0 +1,82 @@
+//! The names of classes.
+
+ghost use Rattle.std.specs.Prelude.{◌≡◌, ◌≢◌, ℕ, Some, None, OnOk};
+ghost use Rattle.refine_partition.specs.ClassNames.{name_of, table_name, named_among};
+
+use base_kit::NoMemory;
+use std::alloc::Global;
+use std::collections::HashMap;
+
+// So many classes are named in a list before there is a table.
+const FEW: usize = 8;
+
+/// The names of classes. A few stand in a list, which is looked through, and more in a table.
+#[derive(Drop)]
+pub struct ClassNames<V> {
+    alloc: Global,
+    few: Vec<(usize, V)>,
+    has_table: bool,
+    table: HashMap<usize, V>,
+}
+
+impl<V: Copy + Drop> ClassNames<V> {
+    /// No class has a name.
+    pub fn new(alloc: Global) -> Self
+        ensures { (class : ℕ) → name_of result class ≡ None }
+    {
+        ClassNames {
+            alloc,
+            few: Vec::new(alloc),
+            has_table: false,
+            table: HashMap::new(alloc),
+        }
+    }
+
+    fn name_among_few(&self, class: usize) -> Option<V>
+        ensures { result ≡ named_among class self.now.few.items None }
+    {
+        let mut found = None;
+        for pair in &self.few {
+            if pair.0 == class {
+                found = Some(pair.1);
+            }
+        }
+        found
+    }
+
+    fn name_in_table(&self, class: usize) -> Option<V>
+        ensures { result ≡ table_name self.now.has_table self.now.table class }
+    {
+        if self.has_table {
+            return self.table.get(&class).copied();
+        }
+        None
+    }
+
+    /// The name of a class.
+    pub fn name(&self, class: usize) -> Option<V>
+        ensures { result ≡ name_of self.now class }
+    {
+        match self.name_in_table(class) {
+            Some(name) => Some(name),
+            None => self.name_among_few(class),
+        }
+    }
+
+    /// Gives the class this name.
+    pub fn put(&mut self, class: usize, name: V) -> Result<(), NoMemory>
+        ensures named { OnOk result (name_of self.new class ≡ Some name) }
+        ensures others { OnOk result ((other : ℕ) → other ≢ class → name_of self.new other ≡ name_of self.old other) }
+    {
+        if !self.has_table && self.few.len() < FEW {
+            self.few.push((class, name))?;
+            return Ok(());
+        }
+        if !self.has_table {
+            self.table = HashMap::new(self.alloc);
+            self.has_table = true;
+        }
+        self.table.insert(class, name)?;
+        Ok(())
+    }
+}
