@@ -1,6 +1,6 @@
 -- How many lines a text has at most. Public: `print` cites this.
 use Rattle.std.proofs.Common.{◌≡◌, ℕ, ◌≤◌, List, length, false, arith}
-use Rattle.std.specs.Prelude.{filter, nat_lt, ◌==◌}
+use Rattle.std.specs.Prelude.{nat_lt, ◌==◌}
 use Rattle.std.proofs.lemmas.Bool.Decides.{nat_tests}
 use Rattle.std.proofs.lemmas.List.Sums.{length-filter, count_by-le-length}
 use Rattle.cfg_print.specs.Prints.{count_newlines}

@@ -7,7 +7,7 @@ ghost use Rattle.cfg_ast.specs.printing.Printed.{line, line_text, lines_text, li
 use crate::words::{put, put_closing};
 use base_kit::List;
 use cfg_ast::{Base, BgpProcess, Named, Neighbor, NetLine, mask_of};
-use printed_words::put_address;
+use printed_words::{put_address, put_digits};
 use std::alloc::AllocError;
 use std::fmt::Write;
 
@@ -53,10 +53,11 @@ fn put_networks(text: &mut String, nets: &List<NetLine>) -> Result<(), AllocErro
 fn put_remote(text: &mut String, peer: &Neighbor) -> Result<(), AllocError>
     ensures { OnOk result (string_bytes text.new ≡ string_bytes text.old ++ line_text (remote_line peer.now.addr peer.now.remote)) }
 {
-    let remote = peer.remote;
     text.push_str(" neighbor ")?;
     put_address(text, peer.addr)?;
-    write!(text, " remote-as {remote}\n")
+    text.push_str(" remote-as ")?;
+    put_digits(text, u64::from(peer.remote))?;
+    text.push_str("\n")
 }
 
 #[tactic(auto, unfolding(cfg_ast::specs::printing::Printed::peer_shut_line))]
@@ -152,7 +153,9 @@ fn put_neighbors(text: &mut String, peers: &List<Neighbor>) -> Result<(), AllocE
 fn put_head(text: &mut String, number: u32) -> Result<(), AllocError>
     ensures { OnOk result (string_bytes text.new ≡ string_bytes text.old ++ lines_text (line 0 (codes "router" ∷ codes "bgp" ∷ decimal number ∷ []) ∷ [])) }
 {
-    write!(text, "router bgp {number}\n")
+    text.push_str("router bgp ")?;
+    put_digits(text, u64::from(number))?;
+    text.push_str("\n")
 }
 
 /// Appends the lines of a BGP process.

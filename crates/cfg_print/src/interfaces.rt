@@ -5,9 +5,8 @@ ghost use Rattle.cfg_ast.specs.printing.Printed.{line_text, lines_text, line_of_
 
 use base_kit::List;
 use cfg_ast::{Address, Interface, mask_of};
-use printed_words::put_address;
+use printed_words::{put_address, put_digits};
 use std::alloc::AllocError;
-use std::fmt::Write;
 
 #[tactic(auto, unfolding(cfg_ast::specs::printing::Printed::ip_address_line))]
 fn put_address_line(text: &mut String, address: &Address) -> Result<(), AllocError>
@@ -30,11 +29,19 @@ fn put_some_address(text: &mut String, address: &Option<Address>) -> Result<(), 
 }
 
 #[tactic(auto, unfolding(cfg_ast::specs::printing::Printed::cost_line))]
+fn put_cost(text: &mut String, cost: u16) -> Result<(), AllocError>
+    ensures { OnOk result (string_bytes text.new ≡ string_bytes text.old ++ line_text (cost_line cost)) }
+{
+    text.push_str(" ip ospf cost ")?;
+    put_digits(text, u64::from(cost))?;
+    text.push_str("\n")
+}
+
 fn put_some_cost(text: &mut String, cost: Option<u16>) -> Result<(), AllocError>
     ensures { OnOk result (string_bytes text.new ≡ string_bytes text.old ++ lines_text (line_of_given cost_line cost)) }
 {
     match cost {
-        Some(cost) => write!(text, " ip ospf cost {cost}\n"),
+        Some(cost) => put_cost(text, cost),
         None => Ok(()),
     }
 }
@@ -52,8 +59,9 @@ fn put_shutdown(text: &mut String, shut: bool) -> Result<(), AllocError>
 fn put_interface(text: &mut String, interface: &Interface) -> Result<(), AllocError>
     ensures { OnOk result (string_bytes text.new ≡ string_bytes text.old ++ lines_text (interface_lines interface.now)) }
 {
-    let name = interface.name.as_str();
-    write!(text, "interface {name}\n")?;
+    text.push_str("interface ")?;
+    text.push_str(interface.name.as_str())?;
+    text.push_str("\n")?;
     put_some_address(text, &interface.address)?;
     put_some_cost(text, interface.cost)?;
     put_shutdown(text, interface.shut)?;

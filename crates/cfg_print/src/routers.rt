@@ -14,15 +14,15 @@ use base_kit::{List, Text};
 use cfg_ast::{BgpProcess, OspfProcess, Router};
 use printed_words::put_name;
 use std::alloc::AllocError;
-use std::fmt::Write;
 
 #[tactic(auto, unfolding(cfg_ast::specs::printing::Printed::member_line))]
 fn put_members(text: &mut String, members: &[Text]) -> Result<(), AllocError>
     ensures { OnOk result (string_bytes text.new ≡ string_bytes text.old ++ lines_text (map member_line members.now)) }
 {
     for member in members {
-        let member = member.as_str();
-        write!(text, "! member {member}\n")?;
+        text.push_str("! member ")?;
+        text.push_str(member.as_str())?;
+        text.push_str("\n")?;
     }
     Ok(())
 }
