@@ -12,11 +12,12 @@ ghost use Rattle.ask_names.specs.Routers.{question_for};
 use crate::asking::Asking;
 use ask_words::AskedOf;
 use base_kit::NoMemory;
+use shared_routes::SharedLabels;
 use solution_answers::Answer;
 use solution_search::{Difference, Tie, Visitor, search};
 use spare_links::laws::spare_links_keep_verdicts;
 use spare_links::{SpareLinks, spare_links};
-use srp_core::{Labels, Srp};
+use srp_core::Srp;
 use srp_questions::Verdict;
 use std::alloc::Global;
 
@@ -112,8 +113,9 @@ impl<'a> Visitor for Marker<'a> {
 
     ghost wants = { λ v. false };
 
-    fn see(&mut self, labels: &Labels) -> Result<(), NoMemory> {
-        self.spare = spare_links(self.alloc, self.srp, labels, self.links)?;
+    fn see(&mut self, labels: &SharedLabels) -> Result<(), NoMemory> {
+        let labels = labels.plain(self.alloc)?;
+        self.spare = spare_links(self.alloc, self.srp, &labels, self.links)?;
         Ok(())
     }
 

@@ -6,8 +6,9 @@ ghost use Rattle.solution_answers.specs.Writing.{Writes};
 
 use crate::putting::put;
 use base_kit::NoMemory;
+use shared_routes::SharedLabels;
 use solution_search::{Visitor, search};
-use srp_core::{Labels, Srp};
+use srp_core::Srp;
 use std::alloc::{AllocError, Global};
 
 // Counts solutions.
@@ -28,7 +29,7 @@ impl<'a> Visitor for Counter<'a> {
 
     ghost wants = { λ v. true };
 
-    fn see(&mut self, _labels: &Labels) -> Result<(), NoMemory> {
+    fn see(&mut self, _labels: &SharedLabels) -> Result<(), NoMemory> {
         match self.count.checked_add(1) {
             Some(count) => {
                 self.count = count;

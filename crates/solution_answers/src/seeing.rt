@@ -7,6 +7,7 @@ ghost use Rattle.srp_questions.specs.Questions.{IsAskedOf};
 ghost use Rattle.solution_answers.specs.Seen.{HasAsked, wants_more};
 
 use base_kit::NoMemory;
+use shared_routes::SharedLabels;
 use solution_search::Visitor;
 use solution_text::print_labels;
 use srp_core::{Labels, Srp};
@@ -49,10 +50,11 @@ impl<'a> Visitor for Asker<'a> {
 
     ghost wants = { λ v. wants_more v.failed };
 
-    fn see(&mut self, labels: &Labels) -> Result<(), NoMemory> {
+    fn see(&mut self, labels: &SharedLabels) -> Result<(), NoMemory> {
+        let labels = labels.plain(self.alloc)?;
         self.some = true;
-        if !is_true(self.alloc, self.srp, labels, self.question)? {
-            self.failed = Some(text_of(self.alloc, self.srp, labels, self.shows)?);
+        if !is_true(self.alloc, self.srp, &labels, self.question)? {
+            self.failed = Some(text_of(self.alloc, self.srp, &labels, self.shows)?);
         }
         Ok(())
     }

@@ -10,6 +10,7 @@ use crate::hops::hops_text;
 use crate::putting::put;
 use crate::told::Told;
 use base_kit::NoMemory;
+use shared_routes::SharedLabels;
 use solution_search::{Visitor, search};
 use solution_text::print_labels;
 use srp_core::{Labels, Srp};
@@ -65,12 +66,13 @@ impl<'a> Visitor for Teller<'a> {
 
     ghost wants = { λ v. true };
 
-    fn see(&mut self, labels: &Labels) -> Result<(), NoMemory> {
+    fn see(&mut self, labels: &SharedLabels) -> Result<(), NoMemory> {
+        let labels = labels.plain(self.alloc)?;
         let Some(index) = self.count.checked_add(1) else {
             return Err(NoMemory);
         };
         let head = head(self.alloc, self.one, self.number, index)?;
-        let text = text_of(self.alloc, self.told, self.srp, labels)?;
+        let text = text_of(self.alloc, self.told, self.srp, &labels)?;
         put(&mut self.bytes, head.as_bytes())?;
         put(&mut self.bytes, &text)?;
         self.count = index;

@@ -10,8 +10,7 @@ ghost use Rattle.route_keys.specs.Keys.{key_with};
 ghost use Rattle.solution_search.specs.Bests.{rank_by, rank_of, rank_over, told, joined, replaced, with_tie};
 
 use base_kit::{NoMemory, NumSet};
-use route_keys::{comms_of, preference_of, size_of};
-use srp_core::Route;
+use shared_routes::{SharedRoute, comms_of, preference_of, size_of};
 use std::alloc::Global;
 use std::cmp::Ordering;
 
@@ -27,7 +26,7 @@ pub enum Difference {
 /// offer has the same preference and size and another key, `tied` says in what the two differ.
 #[derive(Drop)]
 pub(crate) struct Best {
-    pub(crate) route: Route,
+    pub(crate) route: SharedRoute,
     pub(crate) lone: NumSet,
     pub(crate) tied: Option<Difference>,
 }
@@ -45,7 +44,7 @@ pub(crate) enum Rank {
 
 // By preference, and then by size.
 #[tactic(auto, unfolding(srp_core::specs::Weak::compare_weak))]
-fn weak_cmp(route: &Route, other: &Route) -> Ordering
+fn weak_cmp(route: &SharedRoute, other: &SharedRoute) -> Ordering
     ensures { (a b : List ℕ) → result ≡ compare_weak (key_with route.now a) (key_with other.now b) }
 {
     let by_preference = preference_of(other).cmp(&preference_of(route));
@@ -53,7 +52,7 @@ fn weak_cmp(route: &Route, other: &Route) -> Ordering
 }
 
 // Where preference and size are equal, by communities and then by lone numbers.
-fn rank_of_tied(offer: &Best, route: &Route, lone: &NumSet) -> Rank
+fn rank_of_tied(offer: &Best, route: &SharedRoute, lone: &NumSet) -> Rank
     ensures { result ≡ rank_by WeaklyEqual (slice_cmp nat_cmp (comms_of offer.now.route) (comms_of route.now)) (slice_cmp nat_cmp offer.now.lone lone.now) }
 {
     match comms_of(&offer.route).cmp(&comms_of(route)) {
@@ -68,7 +67,7 @@ fn rank_of_tied(offer: &Best, route: &Route, lone: &NumSet) -> Rank
 }
 
 /// How an offer compares with a route that has these lone numbers on its path.
-pub(crate) fn rank_over(offer: &Best, route: &Route, lone: &NumSet) -> Rank
+pub(crate) fn rank_over(offer: &Best, route: &SharedRoute, lone: &NumSet) -> Rank
     ensures { result ≡ rank_over offer.now route.now lone.now }
 {
     match weak_cmp(&offer.route, route) {

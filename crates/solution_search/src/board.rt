@@ -7,8 +7,7 @@ ghost use Rattle.solution_search.specs.Queues.{KeepsQueued};
 use crate::bests::{Best, Difference, is_told};
 use crate::queue::Queue;
 use base_kit::{NoMemory, NumSet};
-use route_keys::size_of;
-use srp_core::Labels;
+use shared_routes::{SharedLabels, size_of};
 use std::mem::replace;
 
 /// A router took an offer while another of its offers had the same preference and the same size and
@@ -53,7 +52,7 @@ pub(crate) enum Change {
 /// waits, and its best offer if it has taken none; all changes since the start; and a tie, if one was met.
 #[derive(Drop)]
 pub(crate) struct Board {
-    pub(crate) labels: Labels,
+    pub(crate) labels: SharedLabels,
     pub(crate) waits: Vec<Option<u32>>,
     pub(crate) bests: Vec<Option<Best>>,
     pub(crate) changes: Vec<Change>,

@@ -8,7 +8,7 @@ ghost use Rattle.solution_search.specs.Queues.{IsListed, IsQueued, KeepsListed};
 use crate::board::Board;
 use crate::queue::Queue;
 use base_kit::NoMemory;
-use route_keys::{preference_of, size_of};
+use shared_routes::{preference_of, size_of};
 
 /// Whether a route has a higher preference than the router waits for, if it waits.
 pub(crate) fn is_above(awaited: Option<u32>, preference: u32) -> bool

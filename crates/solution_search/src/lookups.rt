@@ -11,7 +11,8 @@ use base_kit::{Edge, NoMemory};
 use refine_partition::{Exports, exports_of};
 use route_keys::{LoneNumbers, lone_numbers};
 use route_maps::Plain;
-use srp_core::{Act, Labels, Srp};
+use shared_routes::SharedLabels;
+use srp_core::{Act, Srp};
 use std::alloc::Global;
 use std::marker::Model;
 
@@ -107,7 +108,12 @@ pub(crate) fn own_edges(edges: &[Edge], router: u32) -> (usize, usize)
 }
 
 /// Whether no edge from a router without a label can give this router a route of a higher preference.
-pub(crate) fn is_sure(lookups: &Lookups, labels: &Labels, router: u32, preference: u32) -> bool
+pub(crate) fn is_sure(
+    lookups: &Lookups,
+    labels: &SharedLabels,
+    router: u32,
+    preference: u32,
+) -> bool
     requires { length labels.now ≡ count lookups.now }
     ensures { result ≡ true → (waits : List (Option ℕ)) → IsSure lookups.now (record { labels = labels.now; waits = waits }) router preference }
 {

@@ -1,7 +1,7 @@
 //! The route that an edge gives its importer.
 
-ghost use Rattle.std.specs.Prelude.{◌≡◌, ◌<◌, suc, IfOk, length, option_and_then};
-ghost use Rattle.srp_core.specs.Acts.{step_by, prepended};
+ghost use Rattle.std.specs.Prelude.{◌≡◌, ◌<◌, IfOk, length, option_and_then};
+ghost use Rattle.srp_core.specs.Acts.{step_by};
 ghost use Rattle.srp_core.specs.Candidates.{over, passed};
 ghost use Rattle.srp_core.specs.Problem.{count, is_lone_number};
 ghost use Rattle.srp_core.specs.Routes.{chosen, path_of};
@@ -9,59 +9,51 @@ ghost use Rattle.solution_search.specs.Offers.{IsOfferOf, OffersRoute};
 
 use crate::bests::Best;
 use crate::lookups::Lookups;
-use base_kit::{List, NoMemory, NumSet};
-use route_keys::lone_on;
+use base_kit::{NoMemory, NumSet};
 use route_maps::import;
-use srp_core::{Act, Labels, Route};
+use shared_routes::{RouteParts, SharedLabels, SharedRoute, lone_on};
+use srp_core::Act;
 use std::alloc::Global;
-
-// The number one time more than the count, and then the path.
-fn lengthened(alloc: Global, path: &[u32], number: u32, adds: u8) -> Result<List<u32>, NoMemory>
-    ensures { IfOk result (λ longer. longer ≡ prepended (suc adds) number path.now) }
-{
-    let mut numbers = Vec::new(alloc);
-    numbers.push(number)?;
-    for _i in 0..adds {
-        numbers.push(number)?;
-    }
-    numbers.extend_from_slice(path)?;
-    Ok(List::from_vec(numbers))
-}
 
 // What an act makes of the route of the exporter with that number, before the loop check.
 #[tactic(auto, unfolding(srp_core::specs::Acts::step_by, srp_core::specs::Acts::import_by))]
-fn step(alloc: Global, act: &Act, number: u32, route: &Route) -> Result<Option<Route>, NoMemory>
+fn step(
+    alloc: Global,
+    act: &Act,
+    number: u32,
+    route: &SharedRoute,
+) -> Result<Option<SharedRoute>, NoMemory>
     ensures { IfOk result (λ stepped. stepped ≡ step_by act.now number route.now) }
 {
-    match (act, route) {
-        (Act::Import { out, sends, into }, Route::Bgp { path, comms, .. }) => {
+    match (act, route.parts()) {
+        (Act::Import { out, sends, into }, RouteParts::Bgp { path, comms, .. }) => {
             match import(alloc, out, *sends, into, comms)? {
                 None => Ok(None),
                 Some(imported) => {
-                    let path = lengthened(alloc, path.as_slice(), number, imported.adds)?;
-                    Ok(Some(Route::Bgp {
+                    let path = path.lengthened(alloc, number, imported.adds)?;
+                    Ok(Some(SharedRoute::from_parts(RouteParts::Bgp {
                         lp: imported.lp,
                         path,
                         comms: imported.comms,
-                    }))
+                    })))
                 }
             }
         }
-        (Act::Cost(cost), Route::Ospf { cost: other }) => {
+        (Act::Cost(cost), RouteParts::Ospf { cost: other }) => {
             let sum = u64::from(*cost) + u64::from(*other);
             if sum > 4294967295 {
                 Ok(None)
             } else {
-                Ok(Some(Route::Ospf { cost: sum as u32 }))
+                Ok(Some(SharedRoute::from_parts(RouteParts::Ospf { cost: sum as u32 })))
             }
         }
-        (Act::Import { .. }, Route::Ospf { .. }) => Ok(None),
-        (Act::Cost(_), Route::Bgp { .. }) => Ok(None),
+        (Act::Import { .. }, RouteParts::Ospf { .. }) => Ok(None),
+        (Act::Cost(_), RouteParts::Bgp { .. }) => Ok(None),
     }
 }
 
 /// The numbers of lone routers on the path of a route. Where no router is lone, the path is not looked at.
-pub(crate) fn lone_of(lookups: &Lookups, route: &Route) -> Result<NumSet, NoMemory>
+pub(crate) fn lone_of(lookups: &Lookups, route: &SharedRoute) -> Result<NumSet, NoMemory>
     ensures { IfOk result (λ lone. lone ≡ chosen (is_lone_number lookups.now) (path_of route.now)) }
 {
     if lookups.lone.is_empty() {
@@ -71,7 +63,7 @@ pub(crate) fn lone_of(lookups: &Lookups, route: &Route) -> Result<NumSet, NoMemo
 }
 
 /// The route as an offer that no other ties with.
-pub(crate) fn offer_of(lookups: &Lookups, route: Route) -> Result<Best, NoMemory>
+pub(crate) fn offer_of(lookups: &Lookups, route: SharedRoute) -> Result<Best, NoMemory>
     ensures { IfOk result (IsOfferOf lookups.now route) }
 {
     let lone = lone_of(lookups, &route)?;
@@ -83,7 +75,7 @@ pub(crate) fn offer_of(lookups: &Lookups, route: Route) -> Result<Best, NoMemory
 }
 
 // The route, unless the importer's own number is on its path (RFC 4271 section 9.1.2).
-fn without_loop(route: Option<Route>, own: u32) -> Option<Route>
+fn without_loop(route: Option<SharedRoute>, own: u32) -> Option<SharedRoute>
     ensures { result ≡ option_and_then (passed own) route }
 {
     match route {
@@ -99,11 +91,11 @@ fn without_loop(route: Option<Route>, own: u32) -> Option<Route>
 // What the exporter's label gives the importer by an act.
 fn route_over(
     lookups: &Lookups,
-    labels: &Labels,
+    labels: &SharedLabels,
     exporter: u32,
     importer: u32,
     act: u32,
-) -> Result<Option<Route>, NoMemory>
+) -> Result<Option<SharedRoute>, NoMemory>
     requires exporter { exporter < count lookups.now }
     requires importer { importer < count lookups.now }
     requires act { act < length lookups.now.acts }
@@ -125,7 +117,7 @@ fn route_over(
 /// What an exporter offers the importer by an act, if it offers anything.
 pub(crate) fn offer_over(
     lookups: &Lookups,
-    labels: &Labels,
+    labels: &SharedLabels,
     exporter: u32,
     importer: u32,
     act: u32,

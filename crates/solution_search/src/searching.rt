@@ -25,7 +25,7 @@ use crate::sweeping::{Look, sweep};
 use crate::undoing::turn_back;
 use crate::visitor::Visitor;
 use base_kit::NoMemory;
-use route_keys::preference_of;
+use shared_routes::preference_of;
 use srp_core::Srp;
 use std::alloc::Global;
 

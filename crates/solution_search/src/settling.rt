@@ -17,7 +17,7 @@ use crate::offers::{lone_of, offer_over};
 use crate::queue::Queue;
 use crate::weighing::are_worse;
 use base_kit::NoMemory;
-use srp_core::Route;
+use shared_routes::SharedRoute;
 use std::mem::replace;
 
 /// What a further candidate makes of the labels that are settled.
@@ -49,7 +49,7 @@ fn judge(board: &mut Board, router: u32, rank: Rank) -> Outcome
 }
 
 // How an offer compares with the label of a settled router.
-fn rank_at(lookups: &Lookups, label: &Route, offer: &Best) -> Result<Rank, NoMemory>
+fn rank_at(lookups: &Lookups, label: &SharedRoute, offer: &Best) -> Result<Rank, NoMemory>
     ensures { IfOk result (λ rank. rank ≡ rank_of offer.now (fresh_of lookups.now label.now)) }
 {
     let lone = lone_of(lookups, label)?;

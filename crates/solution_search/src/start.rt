@@ -10,12 +10,13 @@ use crate::board::Board;
 use crate::lookups::Lookups;
 use crate::offers::offer_of;
 use base_kit::NoMemory;
-use srp_core::{Labels, Route};
+use shared_routes::{SharedLabels, SharedRoute};
+use srp_core::Route;
 
-fn no_labels(lookups: &Lookups) -> Result<Labels, NoMemory>
+fn no_labels(lookups: &Lookups) -> Result<SharedLabels, NoMemory>
     ensures { IfOk result (λ labels. labels ≡ replicate (count lookups.now) None) }
 {
-    let mut labels = Labels::new(lookups.alloc);
+    let mut labels = SharedLabels::new(lookups.alloc);
     for _router in 0..lookups.srp.count() {
         labels.push(None)?;
     }
@@ -37,7 +38,10 @@ fn first_best(lookups: &Lookups, initial: &Option<Route>) -> Result<Option<Best>
 {
     match initial {
         None => Ok(None),
-        Some(route) => Ok(Some(offer_of(lookups, route.copy(lookups.alloc)?)?)),
+        Some(route) => {
+            let route = SharedRoute::from_route(lookups.alloc, route)?;
+            Ok(Some(offer_of(lookups, route)?))
+        }
     }
 }
 

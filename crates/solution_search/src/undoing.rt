@@ -7,13 +7,13 @@ ghost use Rattle.solution_search.specs.Boards.{Fits, IsWithin, is_fork, offer_ba
 use crate::bests::{Best, Difference};
 use crate::board::{Board, Change, Wait, put_wait};
 use base_kit::{NoMemory, NumSet};
-use srp_core::Route;
+use shared_routes::SharedRoute;
 use std::alloc::Global;
 
 // The offer that became the label of a router.
 fn offer_back(
     alloc: Global,
-    label: &Option<Route>,
+    label: &Option<SharedRoute>,
     lone: NumSet,
     tied: Option<Difference>,
 ) -> Result<Option<Best>, NoMemory>

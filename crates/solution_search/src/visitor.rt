@@ -6,7 +6,7 @@ ghost use Rattle.srp_core.specs.Problem.{Problem};
 ghost use Rattle.srp_core.specs.Stability.{IsStable};
 
 use base_kit::NoMemory;
-use srp_core::Labels;
+use shared_routes::SharedLabels;
 
 /// Is shown stable labels of a problem, one after the other.
 pub trait Visitor {
@@ -26,7 +26,7 @@ pub trait Visitor {
     ghost wants: { Self → Bool };
 
     /// The next stable labels.
-    fn see(&mut self, labels: &Labels) -> Result<(), NoMemory>
+    fn see(&mut self, labels: &SharedLabels) -> Result<(), NoMemory>
         requires { IsStable (problem self.old) labels.now }
         ensures problem { IfOk result (λ _. problem self.new ≡ problem self.old) }
         ensures task { IfOk result (λ _. task self.new ≡ task self.old) }

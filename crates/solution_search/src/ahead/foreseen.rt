@@ -6,8 +6,7 @@ ghost use Rattle.srp_core.specs.Routes.{comms_of, size_of};
 ghost use Rattle.solution_search.specs.Outlooks.{IsOneForeseen, IsForeseen};
 
 use base_kit::{NoMemory, NumSet};
-use route_keys::size_of;
-use srp_core::Route;
+use shared_routes::{RouteParts, SharedRoute, size_of};
 use std::alloc::Global;
 
 /// Routes with these communities, of this size or a larger one.
@@ -17,17 +16,17 @@ pub(crate) struct Foreseen {
     pub(crate) size: u64,
 }
 
-fn comms_of_route(alloc: Global, route: &Route) -> Result<NumSet, NoMemory>
+fn comms_of_route(alloc: Global, route: &SharedRoute) -> Result<NumSet, NoMemory>
     ensures { IfOk result (λ comms. comms ≡ comms_of route.now) }
 {
-    match route {
-        Route::Bgp { comms, .. } => comms.copy(),
-        Route::Ospf { .. } => Ok(NumSet::new(alloc)),
+    match route.parts() {
+        RouteParts::Bgp { comms, .. } => comms.copy(),
+        RouteParts::Ospf { .. } => Ok(NumSet::new(alloc)),
     }
 }
 
 /// The communities and the size of a route.
-pub(crate) fn foreseen_of(alloc: Global, route: &Route) -> Result<Foreseen, NoMemory>
+pub(crate) fn foreseen_of(alloc: Global, route: &SharedRoute) -> Result<Foreseen, NoMemory>
     ensures { IfOk result (λ foreseen. IsOneForeseen foreseen route.now) }
 {
     let comms = comms_of_route(alloc, route)?;

@@ -11,6 +11,7 @@ use crate::ahead::images::{image_of, may_pass};
 use crate::board::Board;
 use crate::lookups::Lookups;
 use base_kit::{List, NoMemory, NumSet};
+use shared_routes::SharedRoute;
 use std::alloc::Global;
 use std::mem::replace;
 
@@ -145,7 +146,8 @@ fn put_first(
     match &lookups.srp.init()[router as usize] {
         None => Ok(()),
         Some(route) => {
-            let own = foreseen_of(lookups.alloc, route)?;
+            let route = SharedRoute::from_route(lookups.alloc, route)?;
+            let own = foreseen_of(lookups.alloc, &route)?;
             put(lookups.alloc, growing, routers, router, own.comms, own.size)
         }
     }

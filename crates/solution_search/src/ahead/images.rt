@@ -9,8 +9,8 @@ use crate::bests::Best;
 use crate::board::Board;
 use crate::looking::is_above;
 use base_kit::{NoMemory, NumSet};
-use route_keys::{preference_of, size_of};
 use route_maps::import;
+use shared_routes::{preference_of, size_of};
 use srp_core::Act;
 use std::alloc::Global;
 

@@ -14,6 +14,7 @@ use crate::ahead::images::{image_of, may_pass};
 use crate::board::Board;
 use crate::lookups::{Lookups, own_edges};
 use base_kit::{Edge, List, NoMemory};
+use shared_routes::SharedRoute;
 
 /// For each router that takes part all that it may hold.
 #[derive(Drop)]
@@ -119,7 +120,8 @@ fn is_first_foreseen(
     match &lookups.srp.init()[router as usize] {
         None => Ok(true),
         Some(route) => {
-            let own = foreseen_of(lookups.alloc, route)?;
+            let route = SharedRoute::from_route(lookups.alloc, route)?;
+            let own = foreseen_of(lookups.alloc, &route)?;
             let list = table[router as usize].as_slice();
             Ok(is_among(list, &own.comms, own.size))
         }

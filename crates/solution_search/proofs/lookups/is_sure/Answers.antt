@@ -18,7 +18,7 @@ bounds-as_slice-edge c =
     (let t = c.loop-place-test.true in omega (arith, end, t)) in
     let inside = e.exporter_in in
     let total = c.requires ∙ ap (λ (p : Problem). count p) (sym c.lookups.view_is) in
-    let same = ap (λ (l : List (Option Route)). length l) c.as_slice.ensures.all in
+    let same = ap (λ (l : List (Option Route)). length l) c.as_slice.ensures in
     omega (arith, inside, total, same)
 
 pub index-requires : goal.index-requires
@@ -44,7 +44,7 @@ loop-place-preserved c =
     let total = c.requires ∙ ap (λ (p : Problem). count p) (sym c.lookups.view_is) in
     let at = c.index-as_slice-edge.result in
     let is : at ≡ get_or c.args.labels.now (get_or c.edges-edges.result.now c.loop-place.place d).exporter at =
-    c.index-as_slice-edge.is ∙ ap (λ (l : List (Option Route)). get_or l (get_or c.edges-edges.result.now c.loop-place.place d).exporter at) c.as_slice.ensures.all in
+    c.index-as_slice-edge.is ∙ ap (λ (l : List (Option Route)). get_or l (get_or c.edges-edges.result.now c.loop-place.place d).exporter at) c.as_slice.ensures in
     sure_more c.args.labels.now c.lookups.inside.highest.items c.edges-edges.result.now c.own_edges-first.result.0 c.loop-place.place c.args.preference at d
     c.loop-place.invariant less is (omega (arith, inside, total))
     (λ none. elim c.else-is_none.branch [

@@ -13,13 +13,13 @@ returns-in-Some-as_slice c = λ t.
     let labelled : label c.args.board.now.labels c.args.router ≡ Some c.in-Some.from =
     get_or_default c.args.board.now.labels c.args.router None c.index-as_slice-router.result
     (let r = c.requires.router in let f = c.requires.fits.labels in omega (arith, r, f))
-    ∙ sym (c.index-as_slice-router.is ∙ ap (λ (l : List (Option Route)). slice_index_or l c.args.router c.index-as_slice-router.result) c.as_slice.ensures.all)
+    ∙ sym (c.index-as_slice-router.is ∙ ap (λ (l : List (Option Route)). slice_index_or l c.args.router c.index-as_slice-router.result) c.as_slice.ensures)
     ∙ c.in-Some.is in
     let settled : label c.args.board.now.labels c.args.importer ≡ Some c.in-Some-as_slice.label =
     get_or_default c.args.board.now.labels c.args.importer None c.index-as_slice-importer.result
     (let r = c.requires.importer in let f = c.requires.fits.labels in omega (arith, r, f))
     ∙ sym (c.index-as_slice-importer.is
-    ∙ ap (λ (l : List (Option Route)). slice_index_or l c.args.importer c.index-as_slice-importer.result) c.as_slice-2.ensures.all)
+    ∙ ap (λ (l : List (Option Route)). slice_index_or l c.args.importer c.index-as_slice-importer.result) c.as_slice-2.ensures)
     ∙ c.in-Some-as_slice.is in
     beaten_by_own c.args.lookups.now (subst IsProblem c.lookups.view_is c.count-known.ensures.rules) c.args.board.now c.args.router
     (record { importer = c.args.importer; act = c.args.act }) c.in-Some.from c.in-Some-as_slice.label c.requires.fits c.requires.importer labelled settled
@@ -34,7 +34,7 @@ returns c = λ t.
     let labelled : label c.args.board.now.labels c.args.router ≡ Some c.in-Some.from =
     get_or_default c.args.board.now.labels c.args.router None c.index-as_slice-router.result
     (let r = c.requires.router in let f = c.requires.fits.labels in omega (arith, r, f))
-    ∙ sym (c.index-as_slice-router.is ∙ ap (λ (l : List (Option Route)). slice_index_or l c.args.router c.index-as_slice-router.result) c.as_slice.ensures.all)
+    ∙ sym (c.index-as_slice-router.is ∙ ap (λ (l : List (Option Route)). slice_index_or l c.args.router c.index-as_slice-router.result) c.as_slice.ensures)
     ∙ c.in-Some.is in
     let unsettled : label c.args.board.now.labels c.args.importer ≡ None = search rules in
     beaten_by_best c.args.lookups.now (subst IsProblem c.lookups.view_is c.count-known.ensures.rules) c.args.board.now c.args.router

@@ -10,7 +10,7 @@ returns-in-Some c =
     let inside = c.requires.exporter in
     let less : c.args.edge.exporter < length c.args.board.now.labels = omega (arith, total, inside) in
     let there = label_is c.args.board.now.labels c.as_slice.result.now c.args.edge.exporter c.index-as_slice-edge.result c.index-as_slice-edge.is
-    c.as_slice.ensures.all less in
+    c.as_slice.ensures less in
     let some = c.in-Some.is in
     λ t none. absurd (let both : None ≡ c.index-as_slice-edge.result = sym none ∙ there in cc)
 
