@@ -1,5 +1,3 @@
-use Rattle.std.proofs.Common.{◌≡◌, ◌∙◌, sym, subst, List, ℕ}
-use Rattle.shared_routes.specs.Rests.{FollowsNumbers}
 use Rattle.shared_routes.proofs.paths.SharedPath.copy.Goals as goal
 
 pub joined-requires : goal.joined-requires
