@@ -19,20 +19,27 @@ def address_of(word: str) -> IPv4Address:
 
 
 @functools.lru_cache(KEPT)
-def interface_of(address: str, mask: str) -> IPv4Interface:
+def interface_at(number: int, length: int) -> IPv4Interface:
     """The address of an interface, with its subnet."""
-    # (from numbers it is made much faster than from words)
-    return IPv4Interface((int(address_of(address)), _length(mask)))
+    return IPv4Interface((number, length))
+
+
+def number_of(word: str) -> int:
+    """An address as a number. ValueError where the word is none."""
+    try:
+        return int.from_bytes(socket.inet_pton(socket.AF_INET, word), "big")
+    except OSError:
+        raise ValueError(f"no address: {word!r}") from None
 
 
 @functools.lru_cache(KEPT)
 def network_of(address: str, mask: str) -> IPv4Network:
     """A prefix."""
-    return IPv4Network((int(address_of(address)), _length(mask)))
+    return IPv4Network((int(address_of(address)), length_of(mask)))
 
 
 @functools.lru_cache(KEPT)
-def _length(mask: str) -> int:
+def length_of(mask: str) -> int:
     """The length of a mask that is written as an address."""
     return IPv4Network(f"0.0.0.0/{mask}").prefixlen
 

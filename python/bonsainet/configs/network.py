@@ -125,6 +125,13 @@ class Network:
         """The sessions or adjacencies, by the order of their lines: lower end first, then higher."""
         return self._sessions() if self.protocol == "bgp" else self._adjacencies()
 
+    @functools.cached_property
+    def places_of_links(self) -> tuple[list[int], list[int]]:
+        """The places of the devices at the lower ends of the links, and at the higher ends."""
+        place = {id(device): at for at, device in enumerate(self.devices)}
+        lows = [place[id(link.low.device)] for link in self.links]
+        return lows, [place[id(link.high.device)] for link in self.links]
+
     @property
     def unmatched(self) -> list[tuple[Device, Neighbor]]:
         """The neighbours that are part of no session, in order."""
@@ -148,11 +155,11 @@ class Network:
         # (a session is met at the end whose line comes first, so that all stand in order)
         for device in self.devices:
             met.add(id(device))
-            for address, neighbor in device.bgp.neighbors.items() if device.bgp else ():
-                far = at.get(int(address))
+            for number, neighbor in device.bgp.by_number.items() if device.bgp else ():
+                far = at.get(number)
                 if far and far.device.bgp and id(far.device) not in met:
                     near = device.by_subnet.get(far.interface.subnet)
-                    back = far.device.bgp.neighbors.get(near.own_address.ip) if near else None
+                    back = far.device.bgp.by_number.get(near.own_numbers[0]) if near else None
                     if near and back and _agree(device, neighbor, far.device, back):
                         found.append(Link(End(device, near, neighbor), End(far.device, far.interface, back)))
         return found

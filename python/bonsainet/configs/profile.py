@@ -11,9 +11,17 @@ import re
 from collections.abc import Callable, Iterator
 from ipaddress import IPv4Address, IPv4Interface, IPv4Network
 
-from bonsainet.configs.addresses import address_of, classful_length, interface_of, network_of
-from bonsainet.configs.text import Line, Router
+from bonsainet.configs.addresses import (
+    address_of,
+    classful_length,
+    interface_at,
+    length_of,
+    network_of,
+    number_of,
+)
+from bonsainet.configs.text import Line, Router, Stanza
 
+ALL_BITS = 0xFFFFFFFF
 DEFAULT_COSTS = {
     "Loopback": 1,
     "FastEthernet": 1,
@@ -27,11 +35,12 @@ DEFAULT_COSTS = {
 
 @dataclasses.dataclass
 class Interface:
-    """An interface. `cost` is the one that a line gives. `lines` has the line of each value by the value's name."""
+    """An interface. `given` is its address as a number, and the length of its mask. `cost` is the one that a line gives.
+    `lines` has the line of each value by the value's name."""
 
     name: str
     line: Line
-    address: IPv4Interface | None = None
+    given: tuple[int, int] | None = None
     cost: int | None = None
     is_shut: bool = False
     descriptions: list[str] = dataclasses.field(default_factory=list)
@@ -39,21 +48,32 @@ class Interface:
     ignored: list[Line] = dataclasses.field(default_factory=list)
 
     @property
+    def address(self) -> IPv4Interface | None:
+        """Its address with its subnet. It is made where somebody asks, which takes longer than to read the line."""
+        return None if self.given is None else interface_at(*self.given)
+
+    @property
     def own_address(self) -> IPv4Interface:
         """The address of an interface that has one, as each has that is up."""
-        assert self.address
-        return self.address
+        return interface_at(*self.own_numbers)
+
+    @property
+    def own_numbers(self) -> tuple[int, int]:
+        """The same as numbers: the address, and the length of the mask."""
+        assert self.given
+        return self.given
 
     @property
     def subnet(self) -> tuple[int, int]:
         """The subnet of an interface that has an address, by its address and its mask as numbers."""
-        subnet = self.own_address.network
-        return int(subnet.network_address), int(subnet.netmask)
+        number, length = self.own_numbers
+        mask = ALL_BITS >> length ^ ALL_BITS
+        return number & mask, mask
 
     @property
     def is_up(self) -> bool:
         """Whether it has an address and is not shut."""
-        return self.address is not None and not self.is_shut
+        return self.given is not None and not self.is_shut
 
     @property
     def kind(self) -> str:
@@ -95,6 +115,12 @@ class Bgp:
     networks: dict[IPv4Network, Line] = dataclasses.field(default_factory=dict)
     neighbors: dict[IPv4Address, Neighbor] = dataclasses.field(default_factory=dict)
 
+    @functools.cached_property
+    def by_number(self) -> dict[int, Neighbor]:
+        """The neighbours by their addresses as numbers, which are found much faster than addresses. Nothing changes a
+        process that is read."""
+        return {int(address): neighbor for address, neighbor in self.neighbors.items()}
+
 
 @dataclasses.dataclass(frozen=True)
 class AreaLine:
@@ -107,7 +133,7 @@ class AreaLine:
 
     def covers(self, address: IPv4Address) -> bool:
         """Whether the address agrees in all bits where the wildcard has 0."""
-        return not (int(address) ^ self.address) & ~self.wildcard & 0xFFFFFFFF
+        return not (int(address) ^ self.address) & ~self.wildcard & ALL_BITS
 
 
 @dataclasses.dataclass
@@ -217,9 +243,8 @@ class Device:
 
     @functools.cached_property
     def by_address(self) -> dict[int, Interface]:
-        """The interfaces that are up by their addresses as numbers, which are found much faster than addresses. Nothing
-        changes a device that is read."""
-        return {int(interface.own_address): interface for interface in self.up_interfaces}
+        """The interfaces that are up by their addresses as numbers. Nothing changes a device that is read."""
+        return {interface.own_numbers[0]: interface for interface in self.up_interfaces}
 
     @functools.cached_property
     def by_subnet(self) -> dict[tuple[int, int], Interface]:
@@ -241,8 +266,8 @@ def community_text(value: int) -> str:
 def device_of(router: Router) -> Device:
     """What the lines of an accepted router give."""
     reader = _Reader(Device(router.name, next(iter(router.lines))))
-    for line in router.lines:
-        reader.take(line)
+    for stanza in router.stanzas:
+        reader.take(stanza)
     for listed in reader.device.prefix_lists.values():
         listed.sort(key=lambda entry: entry.sequence)
     for entries in reader.device.maps.values():
@@ -256,18 +281,25 @@ class _Reader:
     def __init__(self, device: Device) -> None:
         self.device = device
         self.take_indented: Callable[[Line, list[str]], None] = self._ignore
+        self.neighbors: dict[str, Neighbor] = {}
 
-    def take(self, line: Line) -> None:
-        words = line.words
-        if line.is_blank:
-            if words[:2] == ["!", "member"] and len(words) == 3:
-                self.device.members.append(words[2])
-            self.device.is_stub |= words[:3] == ["!", "assumed:", "a"] and words[-1] == "(--stub)"
-        elif line.is_indented:
-            self.take_indented(line, words)
+    def take(self, stanza: Stanza) -> None:
+        head, lines = stanza.head, stanza.body
+        if head.is_blank or head.is_indented:
+            lines = stanza.lines
         else:
             self.take_indented = self._ignore
-            self._top(line, words)
+            self._top(head, head.words)
+        for line in lines:
+            if line.is_blank:
+                self._comment(line.words)
+            else:
+                self.take_indented(line, line.words)
+
+    def _comment(self, words: list[str]) -> None:
+        if words[:2] == ["!", "member"] and len(words) == 3:
+            self.device.members.append(words[2])
+        self.device.is_stub |= words[:3] == ["!", "assumed:", "a"] and words[-1] == "(--stub)"
 
     def _ignore(self, line: Line, words: list[str]) -> None:
         self.device.ignored.append(line)
@@ -282,6 +314,7 @@ class _Reader:
                 self.take_indented = self._interface
             case ["router", "bgp", number]:
                 device.bgp = Bgp(int(number), line)
+                self.neighbors = {}
                 self.take_indented = self._bgp
             case ["router", "ospf", number]:
                 device.ospf = Ospf(int(number), line)
@@ -317,7 +350,7 @@ class _Reader:
         interface = self.device.interfaces[-1]
         match words:
             case ["ip", "address", address, mask]:
-                interface.address = interface_of(address, mask)
+                interface.given = number_of(address), length_of(mask)
                 interface.lines["address"] = line
             case ["ip", "ospf", "cost", cost]:
                 interface.cost = int(cost)
@@ -335,6 +368,12 @@ class _Reader:
     def _bgp(self, line: Line, words: list[str]) -> None:
         process = self.device.own_bgp
         match words:
+            # (most lines are of neighbours)
+            case ["neighbor", address, "remote-as", number]:
+                neighbor = Neighbor(address_of(address), int(number), line)
+                process.neighbors[neighbor.address] = self.neighbors[address] = neighbor
+            case ["neighbor", address, *rest]:
+                self._neighbor(line, address, rest)
             case ["bgp", "default", "local-preference", value]:
                 process.preference = int(value)
                 process.preference_line = line
@@ -342,16 +381,11 @@ class _Reader:
                 process.networks[IPv4Network(f"{address}/{classful_length(address)}")] = line
             case ["network", address, "mask", mask]:
                 process.networks[network_of(address, mask)] = line
-            case ["neighbor", address, "remote-as", number]:
-                process.neighbors[address_of(address)] = Neighbor(address_of(address), int(number), line)
-            case ["neighbor", address, *rest]:
-                self._neighbor(line, address, rest)
             case _:
                 self._ignore(line, words)
 
     def _neighbor(self, line: Line, address: str, words: list[str]) -> None:
-        named = _address(address)
-        neighbor = self.device.own_bgp.neighbors.get(named) if named else None
+        neighbor = self.neighbors.get(address)
         if not neighbor:
             self._ignore(line, words)
             return
@@ -424,10 +458,3 @@ class _Reader:
                 entry.lines["prepended"] = line
             case _:
                 self._ignore(line, words)
-
-
-def _address(word: str) -> IPv4Address | None:
-    try:
-        return address_of(word)
-    except ValueError:
-        return None
