@@ -81,12 +81,15 @@ def large_by_groups(network: Network, compressed: Compressed) -> Graph:
     group too."""
     group_of = compressed.group_of()
     nodes = [Node(group.members[0], group, group.members) for group in compressed.groups]
-    counts: Counter[tuple[str, str]] = Counter()
-    for link in network.links:
-        ends = sorted((group_of[link.low.device.name], group_of[link.high.device.name]), key=lambda group: group.number)
-        counts[ends[0].members[0], ends[1].members[0]] += 1
+    number = [group_of[device.name].number for device in network.devices]
+    ends = (map(number.__getitem__, places) for places in network.places_of_links)
+    counts: Counter[tuple[int, int]] = Counter()
+    for (low, high), count in Counter(zip(*ends)).items():
+        counts[min(low, high), max(low, high)] += count
+    first = {group.number: group.members[0] for group in compressed.groups}
+    edges = [Edge(first[low], first[high], count=count) for (low, high), count in counts.items()]
     title = f"before: {counted(compressed.size.routers, 'router')}, {counted(compressed.size.links, 'link')}, drawn by groups and counts"
-    return Graph("before", title, nodes, [Edge(*ends, count=count) for ends, count in counts.items()])
+    return Graph("before", title, nodes, edges)
 
 
 def small(compressed: Compressed) -> Graph:
