@@ -7,6 +7,7 @@ from __future__ import annotations
 import importlib
 
 from bonsainet.cli.command_line import run
+from bonsainet.cli.memory import expect_many_objects
 
 
 def start(name: str, place: str, words: list[str] | None = None) -> int:
@@ -14,6 +15,7 @@ def start(name: str, place: str, words: list[str] | None = None) -> int:
     line and a status."""
 
     def work() -> int | None:
+        expect_many_objects()
         module, _, function = place.partition(":")
         return getattr(importlib.import_module(module), function)(words)
 

@@ -6,7 +6,6 @@ import json
 
 from bonsainet.ask.shares import meanwhile
 from bonsainet.cli.command_line import parser, write_output
-from bonsainet.cli.memory import expect_many_objects
 from bonsainet.diffing.documents import document
 from bonsainet.diffing.reason_words import reason_lines
 from bonsainet.diffing.reasons import Reasons, reasons_of
@@ -66,7 +65,6 @@ def main(argv: list[str] | None = None) -> int:
     """Runs the tool: 0 where no route changes, 8 where one does."""
     made = words()
     given = made.parse_args(argv)
-    expect_many_objects()
     sides = places(given.old, given.new)
     if sides is None:
         made.error("NEW is missing: give two networks, or two revisions as OLD..NEW")
