@@ -319,7 +319,7 @@ def run(how: How, seconds: float, jobs: int, texts: int | None, commands: int | 
 def own_program() -> str | None:
     """The program bonsai-ask that the repository's launcher names, or None where there is no such launcher."""
     launcher = TOP / "bonsai-ask"
-    return named_by(str(launcher)) if launcher.is_file() else None
+    return named_by(str(launcher)).path if launcher.is_file() else None
 
 
 def main(arguments: list[str] | None = None) -> int:

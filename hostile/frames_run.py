@@ -256,7 +256,7 @@ def main(arguments: list[str] | None = None) -> int:
     seed = given.seed if given.seed is not None else int.from_bytes(os.urandom(3), "big")
     try:
         one = None if given.by == "reader" else os.path.abspath(given.one or Program().path)
-        every = given.every or named_by(str(TOP / "bonsai-all"))
+        every = given.every or named_by(str(TOP / "bonsai-all")).path
     except (Refused, NoProgram, FileNotFoundError) as why:
         print(f"hostile/frames: refused: {why}", file=sys.stderr)
         return 1

@@ -23,7 +23,7 @@ FABRIC = (TOP / "examples" / "inputs" / "fabric.cfg").read_bytes()
 @pytest.fixture(name="programs", scope="module")
 def programs_fixture() -> Programs:
     """Both programs."""
-    return Programs(Asker(), Asker(named_by(str(TOP / "bonsai-all"))))
+    return Programs(Asker(), Asker(named_by(str(TOP / "bonsai-all")).path))
 
 
 def test_a_short_run_finds_no_difference() -> None:

@@ -22,7 +22,7 @@ from typing import IO, BinaryIO
 
 from bonsainet.ask.running import ending_with_caller, must_start, of_this_thread, ran
 from bonsainet.ask.shares import side_by_side
-from bonsainet.ask.where import Identity, NoProgram, identity_of, is_file_of_one, named_by, without_notices
+from bonsainet.ask.where import Identity, Named, NoProgram, identity_of, is_file_of_one, named_by, without_notices
 
 TOP = Path(__file__).resolve().parents[3]
 LOWEST = 3
@@ -132,20 +132,25 @@ class Program:
         self.launcher = None if path else str(here) if here.is_file() else shutil.which(name)
         found = path or (None if self.launcher else os.environ.get(variable))
         if found:
-            self.path = found
+            self.named = Named(found)
         elif not self.launcher:
             raise FileNotFoundError(f"no program {name}: set {variable}, or build it with ./build")
 
     @functools.cached_property
-    def path(self) -> str:
-        """The file that answers."""
+    def named(self) -> Named:
+        """What the launcher names."""
         assert self.launcher
         return named_by(self.launcher)
+
+    @property
+    def path(self) -> str:
+        """The file that answers."""
+        return self.named.path
 
     @functools.cached_property
     def identity(self) -> Identity:
         """Which program answers."""
-        return identity_of(self.launcher, self.path)
+        return identity_of(self.named)
 
     def executable(self) -> Path | None:
         """The program as one file that runs alone. None where there is none."""

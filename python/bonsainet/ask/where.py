@@ -12,6 +12,7 @@ from pathlib import Path
 
 ELF = b"\x7fELF"
 NOTICE = re.compile(rb"bonsai[a-z-]*: this answer is from ")
+NAMED = re.compile(r"(.+?)\nprogram: (.*)\nkit: (.*)\n", re.S)
 
 
 class NoProgram(Exception):
@@ -66,16 +67,19 @@ def sum_of(path: str | Path) -> str:
     return hashlib.sha256(Path(path).read_bytes()).hexdigest()
 
 
-def identity_of(launcher: str | None, path: str) -> Identity:
-    """Which program a file is, by what the launcher says of it, if that named it."""
-    told: dict[str, str] = {}
-    if launcher:
-        ran = subprocess.run([launcher, "--version"], stdin=subprocess.DEVNULL, capture_output=True, check=False)
-        lines = ran.stdout.decode("utf-8", "replace").splitlines()
-        told = {head: rest for head, _, rest in (line.partition(": ") for line in lines)}
-    kit = told.get("kit")
-    is_proved = told.get("program", "").startswith("proved, ")
-    return Identity(sum_of(path), is_proved, None if kit == "unknown" else kit)
+@dataclasses.dataclass(frozen=True)
+class Named:
+    """What a launcher names: the file of the program that answers, what that is, and by which kit it was made."""
+
+    path: str
+    program: str = ""
+    kit: str = "unknown"
+
+
+def identity_of(named: Named) -> Identity:
+    """Which program answers."""
+    is_proved = named.program.startswith("proved, ")
+    return Identity(sum_of(named.path), is_proved, None if named.kit == "unknown" else named.kit)
 
 
 def without_notices(told: bytes) -> bytes:
@@ -83,9 +87,9 @@ def without_notices(told: bytes) -> bytes:
     return b"".join(line for line in told.splitlines(keepends=True) if not NOTICE.match(line))
 
 
-def named_by(launcher: str) -> str:
-    """What `--where` of a launcher names. What it says of a program that is not proved goes on to standard error, as it comes."""
-    words = [launcher, "--where"]
+def named_by(launcher: str) -> Named:
+    """What a launcher names. What it says of a program that is not proved goes on to standard error, as it comes."""
+    words = [launcher, "--where", "--version"]
     with subprocess.Popen(words, stdin=subprocess.DEVNULL, stdout=subprocess.PIPE, stderr=subprocess.PIPE) as asked:
         assert asked.stdout and asked.stderr
         failure = ""
@@ -95,10 +99,10 @@ def named_by(launcher: str) -> str:
                 _note(text)
             else:
                 failure += text
-        named = os.fsdecode(asked.stdout.read())
-    if asked.returncode or not named.endswith("\n"):
+        found = NAMED.fullmatch(os.fsdecode(asked.stdout.read()))
+    if asked.returncode or not found:
         raise NoProgram(failure.strip() or f"{launcher}: names no program")
-    return named[:-1]
+    return Named(*found.groups())
 
 
 def _note(text: str) -> None:

@@ -15,8 +15,7 @@ from bonsainet.tests.asking import LATEST, needs, place_of, tool
 
 LAUNCHER = """#!/bin/sh
 case $1 in
---where) echo "bonsai: this answer is from NOTICE" >&2; echo 'PROGRAM' ;;
---version) printf 'bonsai 1\\nprogram: KIND\\nkit: kit-1\\n' ;;
+--where) echo "bonsai: this answer is from NOTICE" >&2; printf 'PROGRAM\\nprogram: KIND\\nkit: kit-1\\n' ;;
 *) echo "bonsai: this answer is from NOTICE" >&2; exec 'PROGRAM' "$@" ;;
 esac
 """
@@ -36,11 +35,19 @@ def launcher(room: Path, kind: str, program: str) -> Path:
 def test_what_the_launcher_says(
     kind: str, is_proved: bool, tmp_path: Path, program: Program, capsys: pytest.CaptureFixture[str]
 ) -> None:
-    made = str(launcher(tmp_path, kind, program.path))
-    assert named_by(made) == program.path
+    named = named_by(str(launcher(tmp_path, kind, program.path)))
+    assert named.path == program.path
     assert capsys.readouterr().err == "bonsai: this answer is from NOTICE\n"
     digest = hashlib.sha256(Path(program.path).read_bytes()).hexdigest()
-    assert identity_of(made, program.path) == Identity(digest, is_proved, "kit-1")
+    assert identity_of(named) == Identity(digest, is_proved, "kit-1")
+
+
+def test_a_launcher_that_names_a_file_alone(tmp_path: Path) -> None:
+    made = tmp_path / "bonsai"
+    made.write_text("#!/bin/sh\necho /nowhere/bonsai\n")
+    made.chmod(0o755)
+    with pytest.raises(NoProgram, match="names no program"):
+        named_by(str(made))
 
 
 def test_a_launcher_that_names_no_program(tmp_path: Path) -> None:

@@ -233,6 +233,8 @@ def test_where_names_the_program_that_answers(clone: Path) -> None:
     assert kept.stderr.startswith(b"bonsai: this answer is from an unproved build")
     program = proved(clone)
     assert launch(clone, "--where").stdout.decode() == f"{program}\n"
+    told = launch(clone, "--version").stdout.partition(b"\n")[2].decode()
+    assert launch(clone, "--where", "--version").stdout.decode() == f"{program}\n{told}"
     named = launch(clone, "--where", env=beside(clone, BONSAI_PROGRAM=str(builds(clone)[0])))
     assert named.stdout == kept.stdout and named.stderr.endswith(b", which BONSAI_PROGRAM names\n")
     assert launch(clone, "--where", env=beside(clone, BONSAI_PROGRAM="/nowhere/bonsai")).returncode == 9
