@@ -19,6 +19,12 @@ def address_of(word: str) -> IPv4Address:
 
 
 @functools.lru_cache(KEPT)
+def address_at(number: int) -> IPv4Address:
+    """An address."""
+    return IPv4Address(number)
+
+
+@functools.lru_cache(KEPT)
 def interface_at(number: int, length: int) -> IPv4Interface:
     """The address of an interface, with its subnet."""
     return IPv4Interface((number, length))

@@ -140,7 +140,7 @@ class Network:
             (device, neighbor)
             for device in self.devices
             if device.bgp
-            for neighbor in device.bgp.neighbors.values()
+            for neighbor in device.bgp.by_number.values()
             if id(neighbor) not in matched
         ]
 
@@ -175,7 +175,7 @@ class Network:
         """Of links that stand both ways, those with the lower end first, by the places of their ends."""
         place: dict[int, tuple[int, int]] = {}
         for number, device in enumerate(self.devices):
-            items = device.bgp.neighbors.values() if device.bgp else device.interfaces
+            items = device.bgp.by_number.values() if device.bgp else device.interfaces
             place.update((id(item), (number, within)) for within, item in enumerate(items))
 
         def of(end: End) -> tuple[int, int]:

@@ -12,7 +12,7 @@ from collections.abc import Callable, Iterator
 from ipaddress import IPv4Address, IPv4Interface, IPv4Network
 
 from bonsainet.configs.addresses import (
-    address_of,
+    address_at,
     classful_length,
     interface_at,
     length_of,
@@ -88,9 +88,9 @@ class Interface:
 
 @dataclasses.dataclass
 class Neighbor:
-    """A neighbour of a BGP process."""
+    """A neighbour of a BGP process. `number` is its address as a number."""
 
-    address: IPv4Address
+    number: int
     remote: int
     line: Line
     is_shut: bool = False
@@ -103,23 +103,28 @@ class Neighbor:
     lines: dict[str, Line] = dataclasses.field(default_factory=dict)
     ignored: list[Line] = dataclasses.field(default_factory=list)
 
+    @property
+    def address(self) -> IPv4Address:
+        """Its address."""
+        return address_at(self.number)
+
 
 @dataclasses.dataclass
 class Bgp:
-    """A BGP process."""
+    """A BGP process. `by_number` has its neighbours by their addresses as numbers, which are found much faster than
+    addresses."""
 
     number: int
     line: Line
     preference: int | None = None
     preference_line: Line | None = None
     networks: dict[IPv4Network, Line] = dataclasses.field(default_factory=dict)
-    neighbors: dict[IPv4Address, Neighbor] = dataclasses.field(default_factory=dict)
+    by_number: dict[int, Neighbor] = dataclasses.field(default_factory=dict)
 
     @functools.cached_property
-    def by_number(self) -> dict[int, Neighbor]:
-        """The neighbours by their addresses as numbers, which are found much faster than addresses. Nothing changes a
-        process that is read."""
-        return {int(address): neighbor for address, neighbor in self.neighbors.items()}
+    def neighbors(self) -> dict[IPv4Address, Neighbor]:
+        """The neighbours by their addresses. Nothing changes a process that is read."""
+        return {neighbor.address: neighbor for neighbor in self.by_number.values()}
 
 
 @dataclasses.dataclass(frozen=True)
@@ -370,8 +375,8 @@ class _Reader:
         match words:
             # (most lines are of neighbours)
             case ["neighbor", address, "remote-as", number]:
-                neighbor = Neighbor(address_of(address), int(number), line)
-                process.neighbors[neighbor.address] = self.neighbors[address] = neighbor
+                neighbor = Neighbor(number_of(address), int(number), line)
+                process.by_number[neighbor.number] = self.neighbors[address] = neighbor
             case ["neighbor", address, *rest]:
                 self._neighbor(line, address, rest)
             case ["bgp", "default", "local-preference", value]:

@@ -35,7 +35,7 @@ class _Listed:
 def doubts_of_diagrams(network: Network) -> Iterator[Doubt]:
     """The maps that neighbours name, whose matched lists multiply to more than may end."""
     for device in network.devices:
-        neighbors = device.bgp.neighbors.values() if device.bgp else ()
+        neighbors = device.bgp.by_number.values() if device.bgp else ()
         for name in dict.fromkeys(one for each in neighbors for one in (each.map_in, each.map_out) if one):
             if name in device.maps:
                 yield from _multiplied(device, name)

@@ -24,7 +24,7 @@ def doubts_of_policies(network: Network) -> Iterator[Doubt]:
 
 
 def _unused(device: Device) -> Iterator[Doubt]:
-    neighbors: list[Neighbor] = list(device.bgp.neighbors.values()) if device.bgp else []
+    neighbors: list[Neighbor] = list(device.bgp.by_number.values()) if device.bgp else []
     maps = {name for neighbor in neighbors for name in (neighbor.map_in, neighbor.map_out) if name}
     filters = {name for neighbor in neighbors for name in (neighbor.list_in, neighbor.list_out) if name}
     used, named = _names(device, maps), _names(device, set(device.maps))

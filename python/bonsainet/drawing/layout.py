@@ -2,8 +2,6 @@
 distance."""
 from __future__ import annotations
 
-import colorsys
-import html
 import shlex
 import subprocess
 
@@ -61,6 +59,8 @@ def _color(place: int) -> str:
     """The colours of the list first, and then pale ones of ever new hues."""
     if place < len(COLORS):
         return COLORS[place]
+    import colorsys
+
     red, green, blue = colorsys.hsv_to_rgb(place * 0.618034 % 1, 0.4, 0.95)
     return f"#{round(red * 255):02x}{round(green * 255):02x}{round(blue * 255):02x}"
 
@@ -197,6 +197,9 @@ def _cost(edge: Edge, is_upright: bool, is_flat: bool) -> str:
     or with its name where both are at one height."""
     if edge.at_low is None:
         return ""
+    # (it loads all entities of HTML)
+    import html
+
     ends = [(edge.low, edge.at_low), (edge.high, edge.at_high)]
     upper, lower = ends if is_upright else ends[::-1]
     rows = [str(upper[1])] if upper[1] == lower[1] else [str(cost) for _, cost in (upper, lower)]

@@ -307,13 +307,13 @@ class _Router:
                 writer.add(f" {timer}", process.line, "lab-timers")
         if process.preference_line:
             writer.put(f" bgp default local-preference {process.preference}", process.preference_line, "no-bearing")
-        for neighbor in process.neighbors.values():
+        for neighbor in process.by_number.values():
             self._session(neighbor)
         writer.add(" address-family ipv4 unicast", process.line, "address-family")
         writer.add("  maximum-paths 1", process.line, "one-path")
         for prefix, line in process.networks.items():
             writer.put(f"  network {prefix}", line, "network-length")
-        for neighbor in process.neighbors.values():
+        for neighbor in process.by_number.values():
             self._family(neighbor)
         writer.add(" exit-address-family", process.line, "address-family")
         writer.bare("!")

@@ -169,7 +169,7 @@ class _Router:
             writer.put(f" bgp default local-preference {process.preference}", process.preference_line, "no-bearing")
         for line in process.networks.values():
             writer.put(f" {' '.join(line.words)}", line, "no-bearing")
-        for neighbor in process.neighbors.values():
+        for neighbor in process.by_number.values():
             self._neighbor(neighbor)
         writer.bare("!")
 
