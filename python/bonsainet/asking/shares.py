@@ -7,7 +7,7 @@ import subprocess
 import time
 from collections.abc import Callable, Iterator, Sequence
 
-from bonsainet.ask.program import ASK, IS_DONE, NOT_ALL, Answer, NotAnswered, Status, named
+from bonsainet.ask.program import ASK, IS_DONE, NOT_ALL, Answer, NotAnswered, Program, Status, named
 from bonsainet.ask.shares import processors, ranges, side_by_side
 from bonsainet.asking.calls import LIST, QUESTIONS, TEXT, Asked, Call
 from bonsainet.asking.reports import Part, Report, reports_of
@@ -16,6 +16,8 @@ from bonsainet.cli.progress import progress
 # (below so many classes one process is as fast)
 FEW_CLASSES = 64
 RANGES_EACH = 4
+# (classes that are decided fast take less, also on a slow machine)
+SOON, SOON_A_BYTE = 5.0, 2e-6
 # (true in all labels, so the program says nothing but whether there are some, and whether they are tied)
 ALWAYS_TRUE = ("hops", "999999999", "*")
 # (with a line for each, the file of questions that counts classes is not too long)
@@ -85,25 +87,58 @@ def replies_of(
 
 
 Words = Callable[[str], tuple[list[str], dict[str, str | bytes]]]
+Range = tuple[int, int]
 
 
 def _by_ranges(
     words: Words, name: str, numbers: Sequence[int], seconds: float | None
-) -> Iterator[tuple[tuple[int, int], list[Report] | None]]:
+) -> Iterator[tuple[Range, list[Report] | None]]:
     """What the program says to the words of each range of these classes."""
-    program = named(ASK)
-    until = None if seconds is None else time.monotonic() + seconds
+    asking = _Asking(named(ASK), words, name, None if seconds is None else time.monotonic() + seconds)
+    few = len(numbers) <= FEW_CLASSES // RANGES_EACH
+    asked_of = ranges(numbers, 1 if few else processors())
+    # (each range is a reading of the text, so there are few of them as long as none lasts)
+    is_divided = len(asked_of) < processors() * RANGES_EACH
+    with progress("classes asked", len(numbers)) as advance:
+        for found in side_by_side(asking.in_pieces if is_divided else asking.in_one, asked_of):
+            for part, reports in found:
+                advance(part[1] - part[0] + 1)
+                yield part, reports
 
-    def asked(part: tuple[int, int]) -> list[Report] | None:
-        left = None if until is None else until - time.monotonic()
+
+@dataclasses.dataclass(frozen=True)
+class _Asking:
+    """Who asks for ranges of classes, until some time by the clock."""
+
+    program: Program
+    words: Words
+    name: str
+    until: float | None
+
+    def in_one(self, part: Range) -> list[tuple[Range, list[Report] | None]]:
+        """A range, with what is said of it."""
+        return [(part, self._asked(part))]
+
+    def in_pieces(self, part: Range) -> list[tuple[Range, list[Report] | None]]:
+        """The same, and where that lasts, pieces of the range side by side: a class that takes long holds few others up."""
+        pieces = ranges(range(part[0], part[1] + 1), RANGES_EACH)
+        reports = self._asked(part, SOON) if pieces[1:] else None
+        return [(part, reports)] if reports is not None else [*zip(pieces, side_by_side(self._asked, pieces))]
+
+    def _asked(self, part: Range, soon: float | None = None) -> list[Report] | None:
+        """What is said of a range, none where it is not said in time."""
+        given, texts = self.words(_word(part))
+        left = None if self.until is None else self.until - time.monotonic()
         if left is not None and left <= 0:
             return None
-        given, texts = words(_word(part))
+        if soon is not None:
+            soon += SOON_A_BYTE * len(texts["F"])
+            left = soon if left is None else min(left, soon)
         try:
-            answer = program.ask(*given, texts=texts, seconds=left)
+            answer = self.program.ask(*given, texts=texts, seconds=left)
         except subprocess.TimeoutExpired:
             return None
-        asked_for = f"{name} of classes {_word(part)}"
+        asked_for = f"{self.name} of classes {_word(part)}"
         if answer.status not in IS_DONE:
             raise NotAnswered(answer, asked_for, ASK)
         try:
@@ -113,14 +148,7 @@ def _by_ranges(
         except ValueError as fault:
             raise NotAnswered(dataclasses.replace(answer, err=str(fault).encode()), asked_for, ASK) from None
 
-    few = len(numbers) <= FEW_CLASSES // RANGES_EACH
-    asked_of = ranges(numbers, 1 if few else processors() * RANGES_EACH)
-    with progress("classes asked", len(numbers)) as advance:
-        for part, reports in zip(asked_of, side_by_side(asked, asked_of)):
-            advance(part[1] - part[0] + 1)
-            yield part, reports
 
-
-def _word(part: tuple[int, int]) -> str:
+def _word(part: Range) -> str:
     """A range as a word. It is one also where it has one class, so that solutions name theirs."""
     return f"{part[0]}-{part[1]}"
