@@ -1,3 +1,4 @@
+mod ByKeys
 mod ByLink
 pub mod Carried
 mod Cells

@@ -7,6 +7,7 @@
 //! carry exactly the acts between groups, and that they are no more than the links of the network were.
 #![tactic(auto)]
 
+mod by_group;
 mod by_link;
 pub mod laws;
 mod links;

@@ -8,6 +8,7 @@ ghost use Rattle.abstract_net.specs.Early.{link_of, IsPreceded, PutsEarly, AreEa
 ghost use Rattle.abstract_net.specs.GroupSteps.{step_of, low_of, high_of, same_kind, first_kinds, none_met, first_steps, sorted_steps};
 ghost use Rattle.abstract_net.specs.Met.{is_met, AreMet, HasKind};
 
+use crate::by_group::{order_by_high, order_by_low};
 use crate::by_link::places_by_link;
 use base_kit::{Edge, NoMemory};
 use refine_partition::Partition;
@@ -204,6 +205,33 @@ fn sort_by_low(steps: &mut Vec<Step>) -> Result<(), NoMemory>
     Ok(())
 }
 
+// Up to so many steps are sorted; more are ordered by one pass over them and the groups.
+const FEW_TO_SORT: usize = 64;
+
+fn are_many(count: usize) -> bool
+    ensures { result ≡ true → count < 2 ^ 32 }
+{
+    FEW_TO_SORT < count && count < 4_294_967_296
+}
+
+fn put_by_high(alloc: Global, steps: &mut Vec<Step>) -> Result<(), NoMemory>
+    ensures { OnOk result ((n : ℕ) → All (λ (step : Step). step.high < n) steps.old.items → steps.new.items ≡ by_key high_of n steps.old.items) }
+{
+    if are_many(steps.len()) {
+        return order_by_high(alloc, steps);
+    }
+    sort_by_high(steps)
+}
+
+fn put_by_low(alloc: Global, steps: &mut Vec<Step>) -> Result<(), NoMemory>
+    ensures { OnOk result ((n : ℕ) → All (λ (step : Step). step.low < n) steps.old.items → steps.new.items ≡ by_key low_of n steps.old.items) }
+{
+    if are_many(steps.len()) {
+        return order_by_low(alloc, steps);
+    }
+    sort_by_low(steps)
+}
+
 /// The first edge of each act in each direction between two groups, by the lower group, then the higher
 /// group, then the link.
 pub fn sorted_steps(alloc: Global, edges: &[Edge], p: &Partition) -> Result<Vec<Step>, NoMemory>
@@ -213,7 +241,7 @@ pub fn sorted_steps(alloc: Global, edges: &[Edge], p: &Partition) -> Result<Vec<
     ensures { IfOk result (λ steps. (count : ℕ) → IsNumbered p.now count → steps.items ≡ sorted_steps edges.now p.now count) }
 {
     let mut steps = first_steps(alloc, edges, p)?;
-    sort_by_high(&mut steps)?;
-    sort_by_low(&mut steps)?;
+    put_by_high(alloc, &mut steps)?;
+    put_by_low(alloc, &mut steps)?;
     Ok(steps)
 }

@@ -7,4 +7,4 @@ returns c = λ count numbered.
     let groups : List ℕ = c.args.p.now in
     sorted_are c.args.edges.now groups count numbered c.requires.importers c.requires.exporters
     _ _ _ c.in_ok-steps.ensures
-    c.in_ok-sort_by_high.ensures c.in_ok-sort_by_low.ensures
+    c.in_ok-put_by_high.ensures c.in_ok-put_by_low.ensures
