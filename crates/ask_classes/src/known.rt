@@ -114,8 +114,8 @@ impl<'a> Visitor for Marker<'a> {
     ghost wants = { λ v. false };
 
     fn see(&mut self, labels: &SharedLabels) -> Result<(), NoMemory> {
-        let labels = labels.plain(self.alloc)?;
-        self.spare = spare_links(self.alloc, self.srp, &labels, self.links)?;
+        let plain = labels.plain(self.alloc)?;
+        self.spare = spare_links(self.alloc, self.srp, &plain, self.links)?;
         Ok(())
     }
 

@@ -51,10 +51,10 @@ impl<'a> Visitor for Asker<'a> {
     ghost wants = { λ v. wants_more v.failed };
 
     fn see(&mut self, labels: &SharedLabels) -> Result<(), NoMemory> {
-        let labels = labels.plain(self.alloc)?;
+        let plain = labels.plain(self.alloc)?;
         self.some = true;
-        if !is_true(self.alloc, self.srp, &labels, self.question)? {
-            self.failed = Some(text_of(self.alloc, self.srp, &labels, self.shows)?);
+        if !is_true(self.alloc, self.srp, &plain, self.question)? {
+            self.failed = Some(text_of(self.alloc, self.srp, &plain, self.shows)?);
         }
         Ok(())
     }

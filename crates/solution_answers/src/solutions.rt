@@ -67,12 +67,12 @@ impl<'a> Visitor for Teller<'a> {
     ghost wants = { λ v. true };
 
     fn see(&mut self, labels: &SharedLabels) -> Result<(), NoMemory> {
-        let labels = labels.plain(self.alloc)?;
+        let plain = labels.plain(self.alloc)?;
         let Some(index) = self.count.checked_add(1) else {
             return Err(NoMemory);
         };
         let head = head(self.alloc, self.one, self.number, index)?;
-        let text = text_of(self.alloc, self.told, self.srp, &labels)?;
+        let text = text_of(self.alloc, self.told, self.srp, &plain)?;
         put(&mut self.bytes, head.as_bytes())?;
         put(&mut self.bytes, &text)?;
         self.count = index;
