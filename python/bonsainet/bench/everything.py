@@ -11,7 +11,7 @@ import time
 from pathlib import Path
 from types import ModuleType
 
-from bonsainet.ask.program import TOP
+from bonsainet.ask.program import TOP, NotAnswered
 from bonsainet.bench import paper, plot, profile, questions, turns
 from bonsainet.bench.states import add_named, names_of, program_at
 from bonsainet.cli.command_line import Refused, parser
@@ -48,28 +48,37 @@ def main(argv: list[str] | None = None) -> None:
 
 
 def work(arguments: argparse.Namespace) -> None:
-    """Measures, keeps and writes. What a later step needs is looked for before the first."""
+    """Measures, keeps and writes. What a later step needs is looked for before the first. A step that fails keeps no other
+    from its work, and is told at the end."""
     if missing := packages(bool(arguments.ask)):
         raise Refused(f"programs or modules are not there: install the packages {', '.join(missing)}")
     questions.programs_of(program_at(arguments.programs[1]))
+    failed = []
     for tool, asked in steps(arguments):
-        started = time.monotonic()
-        tool.work(tool.words().parse_args(asked))
-        print(
-            f"all: {tool.__name__.rpartition('.')[2]} {' '.join(asked)}: {time.monotonic() - started:.0f} s",
-            file=sys.stderr,
-        )
+        started, name = time.monotonic(), tool.__name__.rpartition(".")[2]
+        try:
+            tool.work(tool.words().parse_args(asked))
+        except (Refused, NotAnswered, OSError) as why:
+            failed.append(f"{name}: {why}")
+        print(f"all: {name} {' '.join(asked)}: {time.monotonic() - started:.0f} s", file=sys.stderr)
     if arguments.ask:
-        figure(arguments.programs[1], arguments.ask)
+        failed += figure(arguments.programs[1], arguments.ask)
+    if failed:
+        raise Refused("; ".join(failed))
 
 
-def figure(bonsai: Path, ask: Path) -> None:
-    """Measures one question over large networks and small ones, and writes its table and its plot. Refused where it fails."""
+def figure(bonsai: Path, ask: Path) -> list[str]:
+    """Measures one question over large networks and small ones, and writes its table and its plot, also without FRR. What
+    fails of this, in words."""
     programs = ["--bonsai", str(program_at(bonsai)), "--ask", str(program_at(ask))]
     calls = [[*programs, "--keep"], [*programs, "--frr"], ["--draw"]]
+    failed: list[str] = []
     for words in [call for call in calls if "--frr" not in call or os.geteuid() == 0]:
-        if subprocess.run([TOP / "bench" / "asked", *words], check=False).returncode:
-            raise Refused(f"bench/asked {' '.join(words)} failed")
+        status = subprocess.run([TOP / "bench" / "asked", *words], check=False).returncode
+        failed += [f"bench/asked {' '.join(words)}: status {status}"] if status else []
+        if status and "--keep" in words:
+            break
+    return failed
 
 
 def packages(asks: bool) -> list[str]:

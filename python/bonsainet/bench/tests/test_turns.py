@@ -1,4 +1,5 @@
 """Programs are measured in turn over networks of each shape, and rows are kept."""
+import argparse
 import dataclasses
 import subprocess
 from pathlib import Path
@@ -305,22 +306,55 @@ def test_instructions_are_counted_alone(programs) -> None:
 
 
 def test_the_figure_is_measured_where_the_program_is_given(tmp_path: Path, monkeypatch: pytest.MonkeyPatch) -> None:
-    """FRR by root alone; a step that fails ends all."""
+    """FRR by root alone; what fails is told."""
     program = tmp_path / "program"
     program.write_text("#!/bin/sh\n")
     program.chmod(0o755)
     called: list[list[str]] = []
+    failing = "--nothing"
 
     def run(words: list[str], check: bool) -> subprocess.CompletedProcess[str]:
         called.append([str(word) for word in words[1:]])
-        return subprocess.CompletedProcess(words, 1 if "--draw" in words and len(called) < 3 else 0)
+        return subprocess.CompletedProcess(words, 1 if failing in words else 0)
 
     monkeypatch.setattr(everything.subprocess, "run", run)
     monkeypatch.setattr(everything.os, "geteuid", lambda: 0)
-    everything.figure(program, program)
+    assert not everything.figure(program, program)
     both = ["--bonsai", str(program), "--ask", str(program)]
     assert called == [[*both, "--keep"], [*both, "--frr"], ["--draw"]]
+    failing = "--frr"
+    assert everything.figure(program, program) == [f"bench/asked {' '.join(both)} --frr: status 1"] and len(called) == 6
+    called.clear()
+    failing = "--keep"
+    assert len(everything.figure(program, program)) == len(called) == 1
     called.clear()
     monkeypatch.setattr(everything.os, "geteuid", lambda: 1000)
-    with pytest.raises(Refused, match="bench/asked --draw failed"):
-        everything.figure(program, program)
+    failing = "--draw"
+    assert everything.figure(program, program) == ["bench/asked --draw: status 1"] and len(called) == 2
+
+
+def test_a_step_that_fails_keeps_no_other_from_its_work(programs, monkeypatch: pytest.MonkeyPatch) -> None:
+    worked: list[str] = []
+
+    class Step:
+        """A step that is told, and fails where its name says so."""
+
+        def __init__(self, name: str) -> None:
+            self.__name__ = f"bench.{name}"
+
+        def words(self) -> argparse.ArgumentParser:
+            """No words."""
+            return argparse.ArgumentParser()
+
+        def work(self, _words: argparse.Namespace) -> None:
+            """Its work."""
+            worked.append(self.__name__)
+            if "fails" in self.__name__:
+                raise Refused("no machine")
+
+    monkeypatch.setattr(everything, "packages", lambda _asks: [])
+    monkeypatch.setattr(everything.questions, "programs_of", lambda _program: {})
+    monkeypatch.setattr(everything, "steps", lambda _words: [(Step("fails"), []), (Step("plot"), [])])
+    with pytest.raises(Refused, match="^fails: no machine$"):
+        everything.work(everything.words().parse_args(list(map(str, programs))))
+    assert worked == ["bench.fails", "bench.plot"]
