@@ -3,8 +3,6 @@ from __future__ import annotations
 
 import concurrent.futures
 import contextlib
-import ctypes
-import multiprocessing
 import os
 import signal
 from collections.abc import Iterator
@@ -19,6 +17,8 @@ def workers(count: int) -> Iterator[concurrent.futures.ProcessPoolExecutor]:
     try:
         yield pool
     except SystemExit:
+        import multiprocessing
+
         for worker in multiprocessing.active_children():
             worker.kill()
         raise
@@ -29,6 +29,8 @@ def workers(count: int) -> Iterator[concurrent.futures.ProcessPoolExecutor]:
 
 def end_with_parent(parent: int) -> None:
     """What a worker begins with: it ends where its parent ends, however that ends. An interrupt is the parent's to tell."""
+    import ctypes
+
     signal.signal(signal.SIGINT, signal.SIG_IGN)
     for number in (signal.SIGTERM, signal.SIGHUP):
         signal.signal(number, signal.SIG_DFL)

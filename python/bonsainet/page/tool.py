@@ -4,19 +4,18 @@ from __future__ import annotations
 import argparse
 import json
 import re
-from typing import Any
-
-import jinja2
+from typing import TYPE_CHECKING, Any
 
 from bonsainet.ask.accepted import add_text
 from bonsainet.cli.command_line import Refused, name_of, parser, read_input, version, write_output
 from bonsainet.configs.compressed import asked
 from bonsainet.doubts.ties import TiesAsked
-from bonsainet.importing.report import FAILED, TITLES
 from bonsainet.page.answers import AnswersAsked
 from bonsainet.page.build import Rows, everything
 from bonsainet.ask.program import ALL, ASK, BONSAI, identities, named
 
+if TYPE_CHECKING:
+    import jinja2
 
 LONGEST_REPORT = 1 << 30
 
@@ -53,6 +52,7 @@ def main(argv: list[str] | None = None) -> None:
 
 def work(arguments: argparse.Namespace) -> None:
     """Writes the page."""
+    room = templates()
     told = read_report(arguments.import_report) if arguments.import_report else None
     text = asked(named(BONSAI), read_input(arguments.file), name_of(arguments.file))
     rows, numbers = Rows(text), [each.number for each in text.classes]
@@ -69,17 +69,23 @@ def work(arguments: argparse.Namespace) -> None:
     asked_of = [ALL] * bool(numbers) + [ASK] * (has_ties or has_answers)
     programs = identities(BONSAI, *asked_of)
     late = ties.met.told_of_late if ties and ties.met.late else None
-    page = html(everything(text, rows.all, told, programs, has_ties, late))
+    page = html(everything(text, rows.all, told, programs, has_ties, late), room)
     write_output(arguments.output, page.encode(), arguments.file, arguments.import_report or "-")
 
 
-def html(shown: dict[str, Any]) -> str:
-    """The page."""
+def templates() -> jinja2.Environment:
+    """The templates. The package for them loads where a page is written."""
+    import jinja2
+
     loader = jinja2.PackageLoader("bonsainet.page", "templates")
-    room = jinja2.Environment(
+    return jinja2.Environment(
         loader=loader, autoescape=True, trim_blocks=True, lstrip_blocks=True, undefined=jinja2.StrictUndefined
     )
-    return room.get_template("page.html").render(version=version(), **shown)
+
+
+def html(shown: dict[str, Any], room: jinja2.Environment | None = None) -> str:
+    """The page."""
+    return (room or templates()).get_template("page.html").render(version=version(), **shown)
 
 
 def read_report(name: str) -> dict[str, Any]:
@@ -98,6 +104,9 @@ def read_report(name: str) -> dict[str, Any]:
 
 def report_of_text(text: str) -> dict[str, Any] | None:
     """What a report in words says, as the one in JSON has it; none where the text is no such report."""
+    # (with it the rules of the import load)
+    from bonsainet.importing.report import FAILED, TITLES
+
     if text.startswith(FAILED):
         return {"failed": text[len(FAILED) :].strip(" :\n")}
     parts: dict[str, list[list[str]]] = {}

@@ -6,7 +6,7 @@ import dataclasses
 import os
 from collections import defaultdict
 from collections.abc import Iterator
-from concurrent.futures.process import BrokenProcessPool
+from concurrent.futures import BrokenExecutor
 
 from bonsainet.cli.command_line import Refused
 from bonsainet.cli.workers import workers
@@ -113,7 +113,7 @@ def _on_all(program: Program, work: list[list[Rest]]) -> Iterator[Rest]:
         with workers(AT_ONCE) as pool:
             for done in pool.map(_judged_each, [program.path] * len(chunks), chunks):
                 yield from done
-    except BrokenProcessPool:
+    except BrokenExecutor:
         raise Refused("a process that judged routers was ended before its work was done") from None
 
 

@@ -14,7 +14,6 @@ from bonsainet.ask.program import Program
 from bonsainet.ask.where import Identity, judged_by
 from bonsainet.refusals.collect import Entry, Refusals, collect
 from bonsainet.refusals.layout import read
-from bonsainet.refusals.left import left_by_import
 
 LINK = re.compile(r"\[([^]]+)\]\(#[^)]*\)")
 PURPOSE = """Lists all refusals of a text or a folder at once, grouped by head with counts and remedies.
@@ -54,6 +53,9 @@ def work(arguments: argparse.Namespace) -> None:
     program = Program()
     is_folder = arguments.file != "-" and os.path.isdir(arguments.file)
     if is_folder and not arguments.raw:
+        # (with it the rules of the import load)
+        from bonsainet.refusals.left import left_by_import
+
         found = left_by_import(program, arguments.file, arguments.skip, arguments.decisions)
     else:
         found = collect(program, read(arguments.file, arguments.skip))
