@@ -1,10 +1,10 @@
 //! Whether a question is true in the solutions that are found.
 
-ghost use Rattle.std.specs.Prelude.{◌≡◌, [], IfOk, if◌then◌else◌};
-ghost use Rattle.srp_core.specs.Stability.{AreLabels};
+ghost use Rattle.std.specs.Prelude.{◌≡◌, [], IfOk, MatchOption, if◌then◌else◌};
+ghost use Rattle.srp_core.specs.Stability.{AreLabels, IsStable};
 ghost use Rattle.solution_text.specs.Printed.{labels_text};
-ghost use Rattle.srp_questions.specs.Questions.{IsAskedOf};
-ghost use Rattle.solution_answers.specs.Seen.{HasAsked, wants_more};
+ghost use Rattle.srp_questions.specs.Questions.{IsAskedOf, IsTrueIn};
+ghost use Rattle.solution_answers.specs.Seen.{HasAsked, IsFailure, wants_more};
 
 use base_kit::NoMemory;
 use shared_routes::SharedLabels;
@@ -39,6 +39,26 @@ fn text_of(alloc: Global, srp: &Srp, labels: &Labels, shows: bool) -> Result<Vec
     print_labels(alloc, labels, srp.names())
 }
 
+// The text of the labels, if the question is false in them.
+fn failure_of(
+    alloc: Global,
+    srp: &Srp,
+    question: &Question,
+    labels: &SharedLabels,
+    shows: bool,
+) -> Result<Option<Vec<u8>>, NoMemory>
+    requires stable { IsStable srp.now labels.now }
+    requires asked { IsAskedOf srp.now question.now }
+    ensures { IfOk result (λ failure. MatchOption failure (IsTrueIn question.now srp.now labels.now) (λ text. IsFailure srp.now question.now shows text.items)) }
+{
+    let plain = labels.plain(alloc)?;
+    if is_true(alloc, srp, &plain, question)? {
+        return Ok(None);
+    }
+    let text = text_of(alloc, srp, &plain, shows)?;
+    Ok(Some(text))
+}
+
 impl<'a> Visitor for Asker<'a> {
     type Task = (&'a Question, bool);
 
@@ -51,10 +71,10 @@ impl<'a> Visitor for Asker<'a> {
     ghost wants = { λ v. wants_more v.failed };
 
     fn see(&mut self, labels: &SharedLabels) -> Result<(), NoMemory> {
-        let plain = labels.plain(self.alloc)?;
+        let failure = failure_of(self.alloc, self.srp, self.question, labels, self.shows)?;
         self.some = true;
-        if !is_true(self.alloc, self.srp, &plain, self.question)? {
-            self.failed = Some(text_of(self.alloc, self.srp, &plain, self.shows)?);
+        if let Some(text) = failure {
+            self.failed = Some(text);
         }
         Ok(())
     }
