@@ -8,7 +8,7 @@ use srp_core::{Labels, Route};
 use std::alloc::Global;
 use std::marker::Model;
 
-/// A route or none for each router, by its place. Their paths share their ends.
+/// A route or none for each router, by its place. Their paths share their tails.
 #[derive(Drop)]
 pub struct SharedLabels {
     items: Vec<Option<SharedRoute>>,

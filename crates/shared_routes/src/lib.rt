@@ -1,9 +1,9 @@
-//! Routes whose paths share their ends, and labels of such routes.
+//! Routes whose paths share their tails, and labels of such routes.
 //!
 //! In stable labels a router's path is mostly that of the router from which it has its route, with one
-//! number more. A `SharedPath` holds its first numbers itself, and what follows together with the paths
-//! that it was made of, so that the labels of a long network take little more than its routers. To its
-//! callers it is the list of its numbers, a `SharedRoute` is a route, and `SharedLabels` are labels.
+//! number more. A `SharedPath` holds its first numbers itself and shares the tail behind them with other
+//! paths, so that the labels of a long network take little more than its routers. To its callers it is the
+//! list of its numbers, a `SharedRoute` is a route, and `SharedLabels` are labels.
 #![tactic(auto)]
 
 mod labels;

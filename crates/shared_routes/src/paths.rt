@@ -1,4 +1,4 @@
-//! Paths that share their ends.
+//! Paths that share their tails.
 
 ghost use Rattle.std.specs.Prelude.{◌≡◌, ◌++◌, [], suc, IfOk, length, replicate};
 ghost use Rattle.srp_core.specs.Acts.{prepended};
@@ -10,7 +10,8 @@ use std::alloc::Global;
 use std::marker::Model;
 use std::rc::Rc;
 
-// A path with so many numbers of its own is shared by those that are made of it, and not copied.
+// Of a path with fewer numbers of its own a longer one copies these. Where there are so many, a copy of them
+// becomes the tail of the longer path, and of all that are made of it.
 const OWN: usize = 64;
 
 /// AS numbers in order: numbers of its own, and a rest that it may share with other paths.

@@ -1,4 +1,4 @@
-//! Routes whose paths share their ends.
+//! Routes whose paths share their tails.
 
 ghost use Rattle.std.specs.Prelude.{◌≡◌, ◌&&◌, IfOk, nat_eq};
 ghost use Rattle.std.specs.HashSet.{contains};
@@ -27,7 +27,7 @@ pub enum RouteParts {
     },
 }
 
-/// A route whose path shares its end with others.
+/// A route whose path shares its tail with others.
 #[derive(Drop)]
 pub struct SharedRoute {
     parts: RouteParts,
@@ -94,7 +94,7 @@ impl SharedRoute {
         }
     }
 
-    /// The same route. Its path shares the end.
+    /// The same route. Its path shares the tail.
     pub fn copy(&self, alloc: Global) -> Result<SharedRoute, NoMemory>
         ensures { IfOk result (λ route. route ≡ self.now) }
     {
