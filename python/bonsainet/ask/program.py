@@ -142,7 +142,7 @@ class Program:
         assert self.launcher
         return named_by(self.launcher)
 
-    @property
+    @functools.cached_property
     def path(self) -> str:
         """The file that answers."""
         return self.named.path
