@@ -133,7 +133,7 @@ class _Asking:
             return None
         if soon is not None:
             soon += SOON_A_BYTE * len(texts["F"])
-            left = soon if left is None else min(left, soon)
+            left = soon if left is None else min(left / 2, soon)
         try:
             answer = self.program.ask(*given, texts=texts, seconds=left)
         except subprocess.TimeoutExpired:

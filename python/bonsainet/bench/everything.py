@@ -48,8 +48,8 @@ def main(argv: list[str] | None = None) -> None:
 
 
 def work(arguments: argparse.Namespace) -> None:
-    """Measures, keeps and writes. What a later step needs is looked for before the first. A step that fails keeps no other
-    from its work, and is told at the end."""
+    """Measures, keeps and writes. What a later step needs is looked for before the first. A step that is refused keeps
+    no other from its work, and is reported at the end."""
     if missing := packages(bool(arguments.ask)):
         raise Refused(f"programs or modules are not there: install the packages {', '.join(missing)}")
     questions.programs_of(program_at(arguments.programs[1]))

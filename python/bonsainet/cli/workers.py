@@ -29,11 +29,12 @@ def workers(count: int) -> Iterator[concurrent.futures.ProcessPoolExecutor]:
 
 def end_with_parent(parent: int) -> None:
     """What a worker begins with: it ends where its parent ends, however that ends. An interrupt is the parent's to tell."""
-    import ctypes
-
     signal.signal(signal.SIGINT, signal.SIG_IGN)
     for number in (signal.SIGTERM, signal.SIGHUP):
         signal.signal(number, signal.SIG_DFL)
+    # (it takes time, in which a signal can come)
+    import ctypes
+
     ctypes.CDLL(None).prctl(PR_SET_PDEATHSIG, signal.SIGKILL, 0, 0, 0)
     if os.getppid() != parent:
         os.kill(os.getpid(), signal.SIGKILL)
