@@ -201,8 +201,8 @@ ANSWERS: list[Fault] = [
     switched_fault(
         "first-decides",
         "solution_answers/src/seeing.rt",
-        "        self.some = true;\n        if !is_true(self.alloc, self.srp, labels, self.question)? {\n",
-        "        let first = !self.some;\n        self.some = true;\n        if !is_true(self.alloc, self.srp, labels, self.question)? && (first || !PLANTED) {\n",
+        "        self.some = true;\n        if let Some(text) = failure {\n            self.failed = Some(text);\n        }\n",
+        "        let first = !self.some;\n        self.some = true;\n        if let Some(text) = failure {\n            if first || !PLANTED {\n                self.failed = Some(text);\n            }\n        }\n",
         "the first solution decides an answer",
     ),
     switched_fault(
