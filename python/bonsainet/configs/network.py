@@ -13,7 +13,8 @@ from collections.abc import Iterator
 from ipaddress import IPv4Address, IPv4Network
 from itertools import permutations
 
-from bonsainet.configs.profile import Device, Interface, Neighbor, device_of
+from bonsainet.configs.profile import Device, Interface, Neighbor
+from bonsainet.configs.reading import device_of
 from bonsainet.configs.text import Line, read_text
 
 

@@ -31,7 +31,7 @@ from bonsainet.cli.command_line import Refused
 from bonsainet.asking.reports import ClassAnswer, Count, Part, reports_of
 from bonsainet.configs.network import Network as Parsed
 from bonsainet.configs.network import read_network
-from bonsainet.configs.profile import device_of
+from bonsainet.configs.reading import device_of
 from bonsainet.library.answers import Answer, Reply
 from bonsainet.library.calls import call, errors_of, program, read
 from bonsainet.library.classes import DestClass

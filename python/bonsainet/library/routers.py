@@ -9,7 +9,8 @@ from collections.abc import Callable, Collection, Iterable, Iterator
 from ipaddress import IPv4Address
 
 from bonsainet.configs.network import Network as Parsed
-from bonsainet.configs.profile import Device, device_of
+from bonsainet.configs.profile import Device
+from bonsainet.configs.reading import device_of
 from bonsainet.configs.text import lines_of, router_texts, routers_of
 from bonsainet.library.networks import Network
 from bonsainet.library.routes import near_interfaces

@@ -42,19 +42,15 @@ def test_what_the_launcher_says(
     assert identity_of(named) == Identity(digest, is_proved, "kit-1")
 
 
-def test_a_launcher_that_names_a_file_alone(tmp_path: Path) -> None:
+@pytest.mark.parametrize(
+    ("does", "told"),
+    [("echo 'bonsai: no kit' >&2; exit 9", "^bonsai: no kit$"), ("echo /nowhere", "names no program$")],
+)
+def test_a_launcher_that_names_no_program(does: str, told: str, tmp_path: Path) -> None:
     made = tmp_path / "bonsai"
-    made.write_text("#!/bin/sh\necho /nowhere/bonsai\n")
+    made.write_text(f"#!/bin/sh\n{does}\n")
     made.chmod(0o755)
-    with pytest.raises(NoProgram, match="names no program"):
-        named_by(str(made))
-
-
-def test_a_launcher_that_names_no_program(tmp_path: Path) -> None:
-    made = tmp_path / "bonsai"
-    made.write_text("#!/bin/sh\necho 'bonsai: no kit' >&2\nexit 9\n")
-    made.chmod(0o755)
-    with pytest.raises(NoProgram, match="^bonsai: no kit$"):
+    with pytest.raises(NoProgram, match=told):
         named_by(str(made))
 
 
