@@ -103,7 +103,7 @@ fn link_of_two(first: &Step, second: &Step) -> Option<QLink>
     })
 }
 
-// The link of a run of one or two steps that have no other. Most runs are of this form, and need no table.
+// The link of a run of one or two steps, if it has only one. Most runs are of this form, and need no table.
 fn single_link(run: &[Step]) -> Option<QLink>
     ensures { IfSome result (λ link. links_of_run run.now ≡ link ∷ []) }
 {

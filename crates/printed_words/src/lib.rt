@@ -2,7 +2,7 @@
 //!
 //! Each call appends exactly the bytes that the definitions of printing give for a value, or runs out of
 //! memory. Then the text still begins with all that it held; a part of the value may follow, as the
-//! first two numbers of an address. Crates that print lines put them together from these.
+//! first half of a community. Crates that print lines put them together from these.
 #![tactic(auto)]
 
 mod values;

@@ -1,4 +1,4 @@
--- The names of classes: those of a few in a list of pairs, which a table goes before.
+-- The names of classes: those of a few in a list of pairs. The table is asked first.
 use Rattle.std.specs.Prelude.{ℕ, Bool, true, false, List, [], ◌∷◌, Option, Some, None, nat_eq, if◌then◌else◌}
 use Rattle.std.specs.declared.hash.FoldHasher.{FoldHasher}
 use Rattle.std.specs.declared.hash.BuildHasherDefault.{BuildHasherDefault}
