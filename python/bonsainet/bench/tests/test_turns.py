@@ -306,7 +306,7 @@ def test_instructions_are_counted_alone(programs) -> None:
 
 
 def test_the_figure_is_measured_where_the_program_is_given(tmp_path: Path, monkeypatch: pytest.MonkeyPatch) -> None:
-    """FRR by root alone; what fails is told."""
+    """FRR by root alone; what fails is reported."""
     program = tmp_path / "program"
     program.write_text("#!/bin/sh\n")
     program.chmod(0o755)
@@ -337,7 +337,7 @@ def test_a_step_that_fails_keeps_no_other_from_its_work(programs, monkeypatch: p
     worked: list[str] = []
 
     class Step:
-        """A step that is told, and fails where its name says so."""
+        """A step that notes its name, and fails where its name says so."""
 
         def __init__(self, name: str) -> None:
             self.__name__ = f"bench.{name}"
