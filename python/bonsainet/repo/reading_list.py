@@ -106,24 +106,45 @@ class Beside:
         yield f"{definitions + self.lines:5}  lines in all, with {len(self.types)} types"
         names = sorted(self.of_kit)
         yield f"       of the kit's specs, {len(names)} names:"
-        for start in range(0, len(names), NAMES_A_LINE):
-            yield "       " + " ".join(names[start : start + NAMES_A_LINE])
+        yield from in_lines(names)
+
+
+def in_lines(names: list[str]) -> Iterator[str]:
+    """Names in lines, so many in each."""
+    return ("       " + " ".join(names[start : start + NAMES_A_LINE]) for start in range(0, len(names), NAMES_A_LINE))
+
+
+@dataclasses.dataclass
+class KitNames:
+    """The names of the kit's specs that a reader has met."""
+
+    met: set[str]
+
+    def beyond(self, words: Iterable[tuple[File, Iterable[str]]]) -> list[str]:
+        """The line that lists those of these words of files that were not met before, if there are any."""
+        new = sorted(of_kit(words) - self.met)
+        self.met.update(new)
+        return ["       of the kit's specs, beyond these:", *in_lines(new)] if new else []
+
+
+def of_kit(words: Iterable[tuple[File, Iterable[str]]]) -> set[str]:
+    """The names of the kit's specs among words of files."""
+    return {here.of_kit[word].strip("◌") for here, used in words for word in used if word in here.of_kit}
+
+
+def words_at(order: Iterable[Place]) -> list[tuple[File, Iterable[str]]]:
+    """The words of definitions, with their files."""
+    return [(file_of(place.file), file_of(place.file).words(place.name)) for place in order]
 
 
 def beside(clause: str, order: list[Place]) -> Beside:
     """What a clause of `run` rests on beside the definitions that it reaches."""
     wanted = clauses(top_text(), clause)
-    declared, of_kit = set(), set()
-    own = File.of(START)
-    for here, words in [
-        (own, words_of(wanted)),
-        *((file_of(place.file), file_of(place.file).words(place.name)) for place in order),
-    ]:
-        declared |= {here.declared[word] for word in words if word in here.declared}
-        of_kit |= {here.of_kit[word] for word in words if word in here.of_kit}
+    used = [(File.of(START), words_of(wanted)), *words_at(order)]
+    declared = {here.declared[word] for here, words in used for word in words if word in here.declared}
     cites_ends = any(word in ("S", "O", "E") for word in re.findall(r"\b([A-Z])\.", wanted))
     ends = len(clauses(ends_text()).splitlines()) if cites_ends else 0
-    return Beside(types_named(sorted(declared)), len(wanted.splitlines()), ends, [name.strip("◌") for name in of_kit])
+    return Beside(types_named(sorted(declared)), len(wanted.splitlines()), ends, sorted(of_kit(used)))
 
 
 @functools.cache
@@ -168,7 +189,8 @@ def of_all(with_source: bool) -> list[str]:
     """What all clauses reach: `headline` first, then the others beyond it, then what each command adds."""
     seen: set[Place] = set()
     out = ["the clause headline", *of_clause("headline", with_source, seen)]
-    imports = imports_of(top_text())
+    own, imports = File.of(START), imports_of(top_text())
+    kit = KitNames(of_kit([(own, words_of(clauses(top_text(), "headline"))), *words_at(seen)]))
     traits = [f"{len(clauses(ends_text()).splitlines()):5}  io_kit/src/ends.rt: the clauses of Source and Sink"]
     rest = (
         cited_by(clauses(top_text()), imports)
@@ -176,10 +198,18 @@ def of_all(with_source: bool) -> list[str]:
         + shared_starts()
     )
     stops = [Place(OUTCOMES, name) for name in (*BY_COMMAND, WITHOUT_FILES)]
-    out += ["", "the other clauses, beyond it", *shown(reach(rest, seen, stops), with_source, traits)]
+    order = reach(rest, seen, stops)
+    cited = [(own, words_of(clauses(top_text()))), (File.of(ENDS), words_of(clauses(ends_text())))]
+    out += [
+        "",
+        "the other clauses, beyond it",
+        *shown(order, with_source, traits),
+        *kit.beyond([*cited, *words_at(order)]),
+    ]
     for command, start in command_starts().items():
         if order := reach(start, seen):
-            out += ["", f"the command {command.lower()}, beyond these", *shown(order, with_source)]
+            of_command = [*shown(order, with_source), *kit.beyond(words_at(order))]
+            out += ["", f"the command {command.lower()}, beyond these", *of_command]
     known = {place for place in seen if place.name in file_of(place.file).definitions}
     total = sum(len(file_of(place.file).definitions[place.name]) for place in known)
     return [*out, "", f"{total:5}  lines of definitions in all, in {len({place.file for place in known})} files"]

@@ -85,3 +85,11 @@ def test_the_headline_counts_types_clauses_and_the_kit() -> None:
 def test_a_clause_that_run_does_not_have() -> None:
     with pytest.raises(Refused, match="run has no clause nothing"):
         reading_list.of_clause("nothing", with_source=False)
+
+
+def test_names_of_the_kit_are_listed_where_they_are_met_first(tmp_path: Path) -> None:
+    spec = tmp_path / "Count.antt"
+    spec.write_text(SPEC.replace("{ℕ}", "{ℕ, zip}"), "utf-8")
+    here, kit = reading_list.File.of(spec), reading_list.KitNames({"ℕ"})
+    assert kit.beyond([(here, ["count", "ℕ", "zip"])]) == ["       of the kit's specs, beyond these:", "       zip"]
+    assert kit.beyond([(here, ["zip"])]) == []
