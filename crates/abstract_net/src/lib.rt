@@ -17,6 +17,3 @@ mod steps;
 
 pub use links::{quotient, quotient_over};
 pub use qlink::{QLink, Quotient, act_at};
-
-#[cfg(test)]
-mod tests;

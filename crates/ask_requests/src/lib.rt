@@ -6,8 +6,6 @@
 
 mod fault;
 mod spans;
-#[cfg(test)]
-mod tests;
 mod unjoined;
 mod unknown;
 

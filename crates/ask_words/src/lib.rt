@@ -14,8 +14,6 @@ mod parts;
 mod questions;
 mod request;
 mod tasks;
-#[cfg(test)]
-mod tests;
 mod words;
 
 pub use lines::{asks, read_line};

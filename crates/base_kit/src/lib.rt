@@ -16,8 +16,6 @@ mod partition_laws;
 mod prefix;
 mod protocol;
 mod steps;
-#[cfg(test)]
-mod tests;
 mod text;
 
 pub use act_graph::{ActGraph, Edge};

@@ -18,6 +18,3 @@ mod word_groups;
 
 pub use cfg_ast::{FormFault, PolicyItem, PolicyScope};
 pub use item::policy_item;
-
-#[cfg(test)]
-mod tests;

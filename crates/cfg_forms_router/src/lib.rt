@@ -16,6 +16,3 @@ mod top;
 
 pub use cfg_ast::{FormFault, RouterItem, Scope};
 pub use item::router_item;
-
-#[cfg(test)]
-mod tests;

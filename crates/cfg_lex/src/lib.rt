@@ -26,6 +26,3 @@ pub use faults::sound;
 pub use following::{Place, line_from};
 pub use line_words::next_word;
 pub use places::{newline_from, without_return};
-
-#[cfg(test)]
-mod tests;

@@ -7,7 +7,5 @@
 #![tactic(auto)]
 
 mod answers;
-#[cfg(test)]
-mod tests;
 
 pub use answers::{permits, permits_alone, permits_exact};

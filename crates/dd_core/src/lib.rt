@@ -17,8 +17,6 @@ mod reach;
 mod restrict;
 mod store;
 mod table;
-#[cfg(test)]
-mod tests;
 mod variables;
 
 pub use node_id::NodeId;

@@ -13,8 +13,6 @@ mod ports;
 mod refusal;
 mod switch;
 mod switches;
-#[cfg(test)]
-mod tests;
 mod tree;
 
 pub use refusal::FatRefusal;

@@ -14,8 +14,6 @@ mod json_line;
 mod json_values;
 mod link_counts;
 mod reports;
-#[cfg(test)]
-mod tests;
 
 pub use counts::{count_line, put_count_line};
 pub use groups::group_lines;

@@ -15,8 +15,6 @@ mod mem_sink;
 mod mem_source;
 mod sure_sink;
 mod sure_source;
-#[cfg(test)]
-mod tests;
 mod whole;
 
 pub use ends::{Failed, Sink, Source};

@@ -19,8 +19,6 @@ pub mod reading;
 pub mod records;
 pub mod refinement;
 pub mod solutions;
-#[cfg(test)]
-mod tests;
 pub mod top_call;
 pub mod values;
 pub mod worked;

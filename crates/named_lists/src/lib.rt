@@ -11,8 +11,6 @@ mod named;
 mod numbered;
 mod numbers;
 mod room;
-#[cfg(test)]
-mod tests;
 
 pub use by_name::ByName;
 pub use named::{NamedList, NamedLists};

@@ -6,7 +6,5 @@
 #![tactic(auto)]
 
 mod hashing;
-#[cfg(test)]
-mod tests;
 
 pub use hashing::{FEW, NumberDigest, NumberHashing};

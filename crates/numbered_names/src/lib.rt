@@ -11,8 +11,6 @@ mod has_name;
 mod hashing;
 mod places;
 mod sets;
-#[cfg(test)]
-mod tests;
 
 pub use has_name::HasName;
 pub use hashing::{FEW, NameDigest, NameHashing};

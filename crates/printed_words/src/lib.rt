@@ -10,6 +10,3 @@ mod words;
 
 pub use values::{put_address, put_community, put_digits, put_prefix};
 pub use words::{put_communities, put_name, put_names, put_number, put_numbers, put_word};
-
-#[cfg(test)]
-mod tests;

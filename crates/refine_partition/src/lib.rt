@@ -40,6 +40,3 @@ pub use graph_view::GraphView;
 pub use imports::{Exports, exports_of};
 pub use partition::{Partition, coarsest, coarsest_by, coarsest_over};
 pub use splitting::{Splitting, start};
-
-#[cfg(test)]
-mod tests;

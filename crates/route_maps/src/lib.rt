@@ -13,8 +13,6 @@ pub mod laws;
 mod plain;
 mod same;
 mod session;
-#[cfg(test)]
-mod tests;
 mod verdict;
 
 pub use copies::{change_copy, list_copy, map_copy};

@@ -15,8 +15,6 @@ mod order;
 mod reading;
 mod running;
 mod schedule;
-#[cfg(test)]
-mod tests;
 
 pub use activation::{Runner, activate};
 pub use order::reach;

@@ -9,8 +9,6 @@
 mod labels;
 mod paths;
 mod routes;
-#[cfg(test)]
-mod tests;
 
 pub use labels::SharedLabels;
 pub use paths::SharedPath;

@@ -12,8 +12,6 @@ mod printing;
 mod reading;
 mod refusal;
 mod said;
-#[cfg(test)]
-mod tests;
 
 pub use printing::print_labels;
 pub use reading::read_labels;

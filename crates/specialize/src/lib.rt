@@ -14,8 +14,6 @@
 pub mod laws;
 mod maps;
 mod places;
-#[cfg(test)]
-mod tests;
 
 pub use maps::{policy, policy_at};
 pub use places::{Places, places_of, route_map_at};

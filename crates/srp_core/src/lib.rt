@@ -16,8 +16,6 @@ pub mod laws;
 mod route;
 mod srp;
 mod starts;
-#[cfg(test)]
-mod tests;
 
 pub use copies::{acts_copy, names_copy};
 pub use labels::Labels;

@@ -1,0 +1,7 @@
+//! Tests of the words of a question. It has no code of its own.
+#![tactic(auto)]
+
+#[cfg(test)]
+mod requests;
+#[cfg(test)]
+mod words;

@@ -1,0 +1,28 @@
+//! Words as they stand in a text.
+
+use printed_words::{put_address, put_communities, put_name, put_number, put_prefix};
+use base_kit::{NumSet, Prefix, Text};
+use std::test::Fail;
+
+#[test]
+fn values_are_written_as_they_are_read(rt: HostRuntime) -> Result<(), Fail> {
+    let mut text = String::new(rt.alloc());
+    put_address(&mut text, 4_294_967_040)?;
+    text.push_str(" ")?;
+    put_prefix(&mut text, &Prefix::new(167_772_160, 8))?;
+    assert_eq!(rt; text.as_str(), "255.255.255.0 10.0.0.0/8");
+    Ok(())
+}
+
+#[test]
+fn words_stand_behind_blanks(rt: HostRuntime) -> Result<(), Fail> {
+    let mut text = String::new(rt.alloc());
+    put_name(&mut text, &Text::copy_of(rt.alloc(), "ams-1")?)?;
+    put_number(&mut text, 65001)?;
+    let mut comms = NumSet::new(rt.alloc());
+    comms.add(65_537)?;
+    comms.add(1)?;
+    put_communities(&mut text, &comms)?;
+    assert_eq!(rt; text.as_str(), " ams-1 65001 0:1 1:1");
+    Ok(())
+}

@@ -1,4 +1,0 @@
-use Rattle.refine_partition.proofs.tests.split_ring_uncounted.Given as goal
-
-abbrev pub ghosts-split_ring : goal.ghosts-split_ring
-ghosts-split_ring a = record { name = a.blank.name; parts = a.blank.parts }
