@@ -1,4 +1,4 @@
--- One map has equal lines at all routers, but for names of lists and AS numbers.
+-- One map has equal lines at all routers, except for names of lists and AS numbers.
 use Rattle.std.proofs.Common.{◌≡◌, ℕ, zero, suc, ◌+◌, Bool, true, false, List, [], ◌∷◌, ◌++◌, Option, Some, None, map, replicate, refl, sym, ap, ◌∙◌, if◌then◌else◌}
 use Rattle.std.specs.Prelude.{flat_map, is_some, nat_eq, ◌&&◌}
 use Rattle.std.specs.List.{enumerate_from}

@@ -62,6 +62,6 @@ pub record HasSameLines (m : Plain) (number other k l : ℕ) : Type 0 where
   pub entries : map unnamed (written_entries number k m.entries) ≡ map unnamed (written_entries other l m.entries)
   pub lists : lines_of_lists (lists_of_map (k, m)) ≡ lines_of_lists (lists_of_map (l, m))
 
--- The entries are equal but for names of lists and AS numbers, and so are the lists but for their names.
+-- The entries are equal except for names of lists and AS numbers, and so are the lists except for their names.
 abbrev pub MapsAreWrittenAlike : Type 0
 MapsAreWrittenAlike = (m : Plain) (number other k l : ℕ) → HasSameLines m number other k l

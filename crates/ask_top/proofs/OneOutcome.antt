@@ -1,4 +1,4 @@
--- The words allow one outcome over files that are told, but for what is free.
+-- The words allow one outcome over files that are told, except for what is free.
 use Rattle.std.proofs.Common.{◌≡◌, ◌≤◌, ◌<◌, ◌⊎◌, inl, inr, ℕ, Bool, true, List, [], ◌∷◌, length, refl, sym, ap, ◌∙◌, subst, arith, Option, Some, None, Result, Ok, Err}
 use Rattle.std.specs.Prelude.{IfSome, IsSome}
 use Rattle.cfg_ast.specs.declared.classes.DestClass.{DestClass}

@@ -1,4 +1,4 @@
--- Reports of one request, and of the lines of one file of questions, are one, but for what is free.
+-- Reports of one request, and of the lines of one file of questions, are one, except for what is free.
 use Rattle.std.proofs.Common.{◌≡◌, ℕ, suc, zero, Bool, true, false, ◌&&◌, List, [], ◌∷◌, ◌++◌, take, drop, refl, sym, ap, ◌∙◌, subst, inl, inr, Option, Some, None}
 use Rattle.std.specs.Prelude.{Contains}
 use Rattle.std.specs.List.{enumerate_from}

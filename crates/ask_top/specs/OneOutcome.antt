@@ -1,4 +1,4 @@
--- The words allow one outcome over files that are told, but for what is free: the tie that is told with an answer,
+-- The words allow one outcome over files that are told, except for what is free: the tie that is told with an answer,
 -- the labels behind `no`, and in which order solutions stand and which labels stand for one.
 use Rattle.std.specs.Prelude.{◌≡◌, ◌⊎◌, ℕ, Bool, true, false, List, [], ◌∷◌, ◌++◌, length, map, Option, Some, None, IfSome, IsSome}
 use Rattle.cfg_ast.specs.declared.classes.DestClass.{DestClass}

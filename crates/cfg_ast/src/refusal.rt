@@ -80,7 +80,7 @@ pub enum FormFault {
     /// Its head is known, and it does not fit its form.
     #[error("bad form")]
     BadForm,
-    /// It fits its form but for a well-known community.
+    /// It fits its form, except for a well-known community.
     #[error("well-known community")]
     WellKnown,
     /// Memory ran out.

@@ -43,7 +43,7 @@ fn read_form(
 ///
 /// `UnknownLine` where no head of the scope begins the line; `Unsupported` where its longest head is a
 /// refused one, and for router lines, which are read elsewhere; `BadForm` where the line does not fit
-/// the form of its head; `WellKnown` where it fits but for a well-known community (RFC 1997,
+/// the form of its head; `WellKnown` where it fits, except for a well-known community (RFC 1997,
 /// RFC 8326). `Memory` where memory ran out.
 #[tactic(auto, unfolding(cfg_ast::specs::text::PolicyForms::policy_item_by))]
 pub fn policy_item(

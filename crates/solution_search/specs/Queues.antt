@@ -29,7 +29,7 @@ pub record IsFirstTurn (turns : Turns) (size router : ℕ) : Type 0 where
   pub some : (d : Reverse (ℕ × ℕ)) → ((slice_index_or turns 0 d).0.0 ≡ size) × ((slice_index_or turns 0 d).0.1 ≡ router)
   pub least : (other u : ℕ) → IsListed turns other u → size ≤ other
 
--- what is listed stays, but for one turn
+-- what is listed stays, except for one turn
 pub record DropsListed (old new : Turns) (size router : ℕ) : Type 0 where
   pub rest : (other u : ℕ) → IsListed old other u → ((other ≡ size) × (u ≡ router)) ⊎ IsListed new other u
 

@@ -74,7 +74,8 @@ nothing P u r e = elim (cases_lt u (count P)) [
 
 module _ (B A : Problem) (R : ℕ → ℕ → Type 0) (m : IsMatching B A R) (gb : IsProblem B) (ga : IsProblem A) (L : List (Option Route)) (st : IsStable A L)
     (even : IsEven A R L) where
-  -- the label of the matched router came over e; then a router without a label, whose partners of shorter labels are filled, has a candidate of that key from a router matched to e's exporter
+  -- the label of the matched router came over e; then a router without a label, whose partners of shorter labels are filled,
+  -- has a candidate of that key from a router matched to e's exporter
   pub offered_over : (E : List (Option Route)) → IsGood B A R E L → (b a : ℕ) (s : Route) → R b a → label L a ≡ Some s → label E b ≡ None →
       IsFilled R E L (size_of s) → (e : Edge) → Contains A.edges e → e.importer ≡ a → IsCandidateOver A L e s → OfferedOver B A R E b e s
   offered_over E good b a s x lab empty before e i imp over =

@@ -1,7 +1,7 @@
 //! Questions about the labels of a routing problem, and what they come to.
 //!
 //! `next_hops` gives the routers to whom each router forwards, exactly. `is_true` says whether a
-//! question is true in labels, in time linear in the routers and edges but for one sort of the labels
+//! question is true in labels, in time linear in the routers and edges except for one sort of the labels
 //! by size.
 #![tactic(auto)]
 
