@@ -10,7 +10,8 @@ ghost use Rattle.solution_answers.specs.Solutions.{IsHopsText};
 use answer_kit::router_name;
 use base_kit::{NoMemory, NumSet};
 use printed_words::put_word;
-use srp_core::{Labels, Route, Srp};
+use shared_routes::{SharedLabels, SharedRoute};
+use srp_core::Srp;
 use srp_questions::next_hops;
 use std::alloc::{AllocError, Global};
 
@@ -41,7 +42,7 @@ fn put_next(text: &mut String, srp: &Srp, hops: &[u32]) -> Result<(), AllocError
 fn put_hops(
     text: &mut String,
     srp: &Srp,
-    label: &Option<Route>,
+    label: &Option<SharedRoute>,
     hops: &NumSet,
 ) -> Result<(), AllocError>
     ensures { OnOk result (string_bytes text.new ≡ string_bytes text.old ++ hops_words srp.now.names label.now hops.now) }
@@ -56,7 +57,7 @@ fn put_hops(
 ///
 /// # Errors
 /// Out of memory.
-pub(crate) fn hops_text(alloc: Global, srp: &Srp, labels: &Labels) -> Result<String, NoMemory>
+pub(crate) fn hops_text(alloc: Global, srp: &Srp, labels: &SharedLabels) -> Result<String, NoMemory>
     requires { AreLabels srp.now labels.now }
     ensures { IfOk result (λ text. IsHopsText srp.now labels.now (string_bytes text)) }
 {

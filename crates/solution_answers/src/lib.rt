@@ -12,6 +12,7 @@
 mod answering;
 mod counting;
 mod hops;
+mod labels;
 mod putting;
 mod seeing;
 mod solutions;

@@ -6,11 +6,11 @@ ghost use Rattle.solution_text.specs.Printed.{labels_text};
 ghost use Rattle.srp_questions.specs.Questions.{IsAskedOf, IsTrueIn};
 ghost use Rattle.solution_answers.specs.Seen.{HasAsked, IsFailure, wants_more};
 
+use crate::labels::labels_text;
 use base_kit::NoMemory;
 use shared_routes::SharedLabels;
 use solution_search::Visitor;
-use solution_text::print_labels;
-use srp_core::{Labels, Srp};
+use srp_core::Srp;
 use srp_questions::{Question, is_true};
 use std::alloc::Global;
 
@@ -28,15 +28,19 @@ pub(crate) struct Asker<'a> {
 }
 
 // The text of labels, if they are to be shown.
-fn text_of(alloc: Global, srp: &Srp, labels: &Labels, shows: bool) -> Result<Vec<u8>, NoMemory>
+fn text_of(
+    alloc: Global,
+    srp: &Srp,
+    labels: &SharedLabels,
+    shows: bool,
+) -> Result<Vec<u8>, NoMemory>
     requires { AreLabels srp.now labels.now }
     ensures { IfOk result (λ text. text.items ≡ (if shows then labels_text srp.now.names labels.now else [])) }
 {
     if !shows {
         return Ok(Vec::new(alloc));
     }
-    let _known = srp.count();
-    print_labels(alloc, labels, srp.names())
+    labels_text(alloc, srp, labels)
 }
 
 // The text of the labels, if the question is false in them.
@@ -51,11 +55,10 @@ fn failure_of(
     requires asked { IsAskedOf srp.now question.now }
     ensures { IfOk result (λ failure. MatchOption failure (IsTrueIn question.now srp.now labels.now) (λ text. IsFailure srp.now question.now shows text.items)) }
 {
-    let plain = labels.plain(alloc)?;
-    if is_true(alloc, srp, &plain, question)? {
+    if is_true(alloc, srp, labels, question)? {
         return Ok(None);
     }
-    let text = text_of(alloc, srp, &plain, shows)?;
+    let text = text_of(alloc, srp, labels, shows)?;
     Ok(Some(text))
 }
 

@@ -7,13 +7,13 @@ ghost use Rattle.solution_answers.specs.Writing.{Writes};
 ghost use Rattle.srp_core.specs.Stability.{AreLabels};
 
 use crate::hops::hops_text;
+use crate::labels::labels_text;
 use crate::putting::put;
 use crate::told::Told;
 use base_kit::NoMemory;
 use shared_routes::SharedLabels;
 use solution_search::{Visitor, search};
-use solution_text::print_labels;
-use srp_core::{Labels, Srp};
+use srp_core::Srp;
 use std::alloc::{AllocError, Global};
 
 // Appends the text of each solution that it sees.
@@ -39,15 +39,12 @@ fn head(alloc: Global, one: bool, number: usize, index: u64) -> Result<String, A
     Ok(head)
 }
 
-fn text_of(alloc: Global, told: Told, srp: &Srp, labels: &Labels) -> Result<Vec<u8>, NoMemory>
+fn text_of(alloc: Global, told: Told, srp: &Srp, labels: &SharedLabels) -> Result<Vec<u8>, NoMemory>
     requires { AreLabels srp.now labels.now }
     ensures { IfOk result (λ text. IsToldAs told srp.now labels.now text.items) }
 {
     match told {
-        Told::Labels => {
-            let _known = srp.count();
-            print_labels(alloc, labels, srp.names())
-        }
+        Told::Labels => labels_text(alloc, srp, labels),
         Told::Hops => {
             let text = hops_text(alloc, srp, labels)?;
             Ok(text.into_bytes())
@@ -67,12 +64,11 @@ impl<'a> Visitor for Teller<'a> {
     ghost wants = { λ v. true };
 
     fn see(&mut self, labels: &SharedLabels) -> Result<(), NoMemory> {
-        let plain = labels.plain(self.alloc)?;
         let Some(index) = self.count.checked_add(1) else {
             return Err(NoMemory);
         };
         let head = head(self.alloc, self.one, self.number, index)?;
-        let text = text_of(self.alloc, self.told, self.srp, &plain)?;
+        let text = text_of(self.alloc, self.told, self.srp, labels)?;
         put(&mut self.bytes, head.as_bytes())?;
         put(&mut self.bytes, &text)?;
         self.count = index;

@@ -15,6 +15,7 @@ ghost use Rattle.srp_questions.specs.Ties.{tied_exporters};
 use crate::ties::ties_over;
 use base_kit::{Edge, List, NoMemory, NumSet};
 use route_offers::{Lone, end_of, lone_of_labels};
+use shared_routes::SharedLabels;
 use srp_core::{Labels, Route, Srp};
 use std::alloc::Global;
 
@@ -91,12 +92,8 @@ fn next_of(
     }
 }
 
-/// For each router those to whom it forwards, ascending: the exporters of its edges that give it a
-/// route of the key of its label. The edges are gone over once, and no path is built.
-///
-/// # Errors
-/// Out of memory.
-pub fn next_hops(alloc: Global, srp: &Srp, labels: &Labels) -> Result<List<NumSet>, NoMemory>
+// Those to whom each router forwards. The edges are gone over once, and no path is built.
+fn hops_under(alloc: Global, srp: &Srp, labels: &Labels) -> Result<List<NumSet>, NoMemory>
     requires { AreLabels srp.now labels.now }
     ensures { IfOk result (AreNextHops srp.now labels.now) }
 {
@@ -111,4 +108,18 @@ pub fn next_hops(alloc: Global, srp: &Srp, labels: &Labels) -> Result<List<NumSe
         first = end;
     }
     Ok(hops)
+}
+
+/// For each router those to whom it forwards, ascending: the exporters of its edges that give it a
+/// route of the key of its label.
+///
+/// # Errors
+/// Out of memory.
+pub fn next_hops(alloc: Global, srp: &Srp, labels: &SharedLabels) -> Result<List<NumSet>, NoMemory>
+    requires { AreLabels srp.now labels.now }
+    ensures { IfOk result (AreNextHops srp.now labels.now) }
+{
+    // (what an edge gives its importer is found over whole paths)
+    let plain = labels.plain(alloc)?;
+    hops_under(alloc, srp, &plain)
 }

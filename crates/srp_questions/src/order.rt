@@ -6,8 +6,7 @@ ghost use Rattle.std.specs.List.Sorted.{IsPermutation, IsNonDecreasingBy};
 ghost use Rattle.srp_questions.specs.Walks.{rank, rank_size, AreRanks, AreOrderedRanks};
 
 use base_kit::NoMemory;
-use route_keys::size_of;
-use srp_core::{Labels, Route};
+use shared_routes::{SharedLabels, SharedRoute, size_of};
 use std::alloc::Global;
 
 /// A router that has a label, and the size of the label.
@@ -17,7 +16,7 @@ pub(crate) struct Rank {
     pub(crate) size: u64,
 }
 
-fn rank_of(router: u32, label: &Option<Route>) -> Option<Rank>
+fn rank_of(router: u32, label: &Option<SharedRoute>) -> Option<Rank>
     ensures { result ≡ option_map (rank router) label.now }
 {
     match label {
@@ -38,7 +37,7 @@ fn push_some(ranks: &mut Vec<Rank>, rank: Option<Rank>) -> Result<(), NoMemory>
     Ok(())
 }
 
-fn ranks_by_router(alloc: Global, labels: &[Option<Route>]) -> Result<Vec<Rank>, NoMemory>
+fn ranks_by_router(alloc: Global, labels: &[Option<SharedRoute>]) -> Result<Vec<Rank>, NoMemory>
     requires { length labels.now < 2 ^ 32 }
     ensures { IfOk result (λ ranks. AreRanks labels.now ranks.items) }
 {
@@ -57,7 +56,7 @@ fn sort_by_size(ranks: &mut Vec<Rank>)
 }
 
 /// The routers that have a label, by ascending size of their labels.
-pub(crate) fn ranks_by_size(alloc: Global, labels: &Labels) -> Result<Vec<Rank>, NoMemory>
+pub(crate) fn ranks_by_size(alloc: Global, labels: &SharedLabels) -> Result<Vec<Rank>, NoMemory>
     requires { length labels.now < 2 ^ 32 }
     ensures { IfOk result (λ ranks. AreOrderedRanks labels.now ranks.items) }
 {

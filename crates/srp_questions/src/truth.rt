@@ -13,11 +13,11 @@ use crate::marks::{flags, is_none_marked, origins};
 use crate::question::Question;
 use crate::walks::{longest_chains, reaching};
 use base_kit::{NoMemory, NumSet};
-use route_keys::comms_of;
-use srp_core::{Labels, Route, Srp};
+use shared_routes::{SharedLabels, SharedRoute, comms_of};
+use srp_core::Srp;
 use std::alloc::Global;
 
-fn have_routes(labels: &Labels, routers: &NumSet) -> bool
+fn have_routes(labels: &SharedLabels, routers: &NumSet) -> bool
     requires { All (λ router. router < length labels.now) routers.now }
     ensures { result ≡ list_all (λ router. is_some (label labels.now router)) routers.now }
 {
@@ -29,7 +29,7 @@ fn have_routes(labels: &Labels, routers: &NumSet) -> bool
     true
 }
 
-fn have_no_routes(labels: &Labels, routers: &NumSet) -> bool
+fn have_no_routes(labels: &SharedLabels, routers: &NumSet) -> bool
     requires { All (λ router. router < length labels.now) routers.now }
     ensures { result ≡ list_all (λ router. not (is_some (label labels.now router))) routers.now }
 {
@@ -41,14 +41,14 @@ fn have_no_routes(labels: &Labels, routers: &NumSet) -> bool
     true
 }
 
-fn has_community(route: &Route, community: u32) -> bool
+fn has_community(route: &SharedRoute, community: u32) -> bool
     ensures { result ≡ has (comms_of route.now) community }
 {
     comms_of(route).contains(&community)
 }
 
 // Whether a label that is there holds the community.
-fn holds(label: &Option<Route>, community: u32) -> bool
+fn holds(label: &Option<SharedRoute>, community: u32) -> bool
     ensures { result ≡ holds_community community label.now }
 {
     match label {
@@ -57,7 +57,7 @@ fn holds(label: &Option<Route>, community: u32) -> bool
     }
 }
 
-fn all_hold(labels: &Labels, community: u32, routers: &NumSet) -> bool
+fn all_hold(labels: &SharedLabels, community: u32, routers: &NumSet) -> bool
     requires { All (λ router. router < length labels.now) routers.now }
     ensures { result ≡ list_all (λ router. holds_community community (label labels.now router)) routers.now }
 {
@@ -70,7 +70,7 @@ fn all_hold(labels: &Labels, community: u32, routers: &NumSet) -> bool
 }
 
 // Whether a label does not hold the community, or is not there.
-fn lacks(label: &Option<Route>, community: u32) -> bool
+fn lacks(label: &Option<SharedRoute>, community: u32) -> bool
     ensures { result ≡ lacks_community community label.now }
 {
     match label {
@@ -79,7 +79,7 @@ fn lacks(label: &Option<Route>, community: u32) -> bool
     }
 }
 
-fn all_lack(labels: &Labels, community: u32, routers: &NumSet) -> bool
+fn all_lack(labels: &SharedLabels, community: u32, routers: &NumSet) -> bool
     requires { All (λ router. router < length labels.now) routers.now }
     ensures { result ≡ list_all (λ router. lacks_community community (label labels.now router)) routers.now }
 {
@@ -107,7 +107,7 @@ fn are_at_most(lengths: &[u32], most: u32, routers: &NumSet) -> bool
 fn are_within_hops(
     alloc: Global,
     srp: &Srp,
-    labels: &Labels,
+    labels: &SharedLabels,
     most: u32,
     routers: &NumSet,
 ) -> Result<bool, NoMemory>
@@ -124,7 +124,7 @@ fn are_within_hops(
 fn pass_through(
     alloc: Global,
     srp: &Srp,
-    labels: &Labels,
+    labels: &SharedLabels,
     way: &NumSet,
     routers: &NumSet,
 ) -> Result<bool, NoMemory>
@@ -143,7 +143,7 @@ fn pass_through(
 fn stay_off(
     alloc: Global,
     srp: &Srp,
-    labels: &Labels,
+    labels: &SharedLabels,
     way: &NumSet,
     routers: &NumSet,
 ) -> Result<bool, NoMemory>
@@ -166,7 +166,7 @@ fn stay_off(
 pub fn is_true(
     alloc: Global,
     srp: &Srp,
-    labels: &Labels,
+    labels: &SharedLabels,
     question: &Question,
 ) -> Result<bool, NoMemory>
     requires labels { AreLabels srp.now labels.now }

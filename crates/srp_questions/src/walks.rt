@@ -10,7 +10,8 @@ ghost use Rattle.srp_questions.specs.Walks.{AreOrderedRanks, IsLongest, longest_
 use crate::forwarding::next_hops;
 use crate::order::{Rank, ranks_by_size};
 use base_kit::{List, NoMemory, NumSet};
-use srp_core::{Labels, Srp};
+use shared_routes::SharedLabels;
+use srp_core::Srp;
 use std::alloc::Global;
 
 // One hop more than the longest of the chains from these routers, 0 where there are none.
@@ -30,7 +31,7 @@ fn longest_over(lengths: &[u32], next: &NumSet) -> u32
 fn longest_by_rank(
     alloc: Global,
     srp: &Srp,
-    labels: &Labels,
+    labels: &SharedLabels,
     hops: &List<NumSet>,
     ranks: &[Rank],
 ) -> Result<Vec<u32>, NoMemory>
@@ -53,7 +54,7 @@ fn longest_by_rank(
 pub(crate) fn longest_chains(
     alloc: Global,
     srp: &Srp,
-    labels: &Labels,
+    labels: &SharedLabels,
 ) -> Result<Vec<u32>, NoMemory>
     requires { AreLabels srp.now labels.now }
     ensures total { IfOk result (λ lengths. length lengths.items ≡ count srp.now) }
@@ -101,7 +102,7 @@ fn reaches(is_allowed: bool, is_goal: bool, goes_on: bool) -> bool
 fn reaching_by_rank(
     alloc: Global,
     srp: &Srp,
-    labels: &Labels,
+    labels: &SharedLabels,
     hops: &List<NumSet>,
     ranks: &[Rank],
     allowed: &[bool],
@@ -131,7 +132,7 @@ fn reaching_by_rank(
 pub(crate) fn reaching(
     alloc: Global,
     srp: &Srp,
-    labels: &Labels,
+    labels: &SharedLabels,
     allowed: &[bool],
     goals: &[bool],
 ) -> Result<Vec<bool>, NoMemory>

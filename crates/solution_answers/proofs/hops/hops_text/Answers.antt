@@ -26,7 +26,7 @@ loop-router-preserved c =
     let long = ap (λ (l : List (List ℕ)). length l) c.as_slice-hops.ensures in
     let test = c.loop-router-test.true in
     let inside : i < length labels = omega (arith, total, each, long, test) in
-    let lab : here ≡ label labels i = c.index-labels-router.is ∙ ap (λ (l : List (Option Route)). get_or l i here) c.as_slice-labels.ensures.all
+    let lab : here ≡ label labels i = c.index-labels-router.is ∙ ap (λ (l : List (Option Route)). get_or l i here) c.as_slice-labels.ensures
     ∙ get_or_default labels i here None inside in
     line_more names labels hops i next (string_bytes c.loop-router.text) (string_bytes c.push_str.new.self) (string_bytes c.put_hops.new.text)
     (string_bytes c.push_str-in-loop-router.new.self) test c.loop-router.invariant

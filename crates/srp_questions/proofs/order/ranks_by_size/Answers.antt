@@ -6,5 +6,5 @@ use Rattle.srp_questions.proofs.order.ranks_by_size.Goals as goal
 
 pub returns : goal.returns
 returns c = sorted_ranks c.args.labels.now c.in_ok-ranks.ranks.items c.sort_by_size.new.ranks.items
-    (subst (λ (l : List (Option Route)). AreRanks l c.in_ok-ranks.ranks.items) c.as_slice.ensures.all c.in_ok-ranks.ensures) c.sort_by_size.ensures.same
+    (subst (λ (l : List (Option Route)). AreRanks l c.in_ok-ranks.ranks.items) c.as_slice.ensures c.in_ok-ranks.ensures) c.sort_by_size.ensures.same
     c.sort_by_size.ensures.rising

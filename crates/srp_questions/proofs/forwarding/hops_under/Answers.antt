@@ -3,7 +3,7 @@ use Rattle.srp_core.specs.Problem.{AreOrdered}
 use Rattle.route_offers.proofs.OwnEdges.{Stand, passed_more, left_more, own_are}
 use Rattle.srp_questions.specs.NextHops.{AreNextOf}
 use Rattle.srp_questions.proofs.Exporters.{own_rise, list_more}
-use Rattle.srp_questions.proofs.forwarding.next_hops.Goals as goal
+use Rattle.srp_questions.proofs.forwarding.hops_under.Goals as goal
 
 pub next_of-requires-clause-own : goal.next_of-requires-clause-own
 next_of-requires-clause-own c =

@@ -2,7 +2,7 @@ use Rattle.std.proofs.Common.{◌≡◌, ◌≤◌, ◌<◌, ℕ, [], length}
 use Rattle.std.specs.Prelude.{slice_index_or}
 use Rattle.std.specs.List.{AllWithin}
 use Rattle.srp_questions.specs.NextHops.{AreNextOf}
-use Rattle.srp_questions.proofs.forwarding.next_hops.Given as goal
+use Rattle.srp_questions.proofs.forwarding.hops_under.Given as goal
 
 -- the routers before have their lists, and their edges stand before the place
 abbrev pub invariant-loop-router : goal.invariant-loop-router
