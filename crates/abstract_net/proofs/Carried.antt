@@ -1,5 +1,6 @@
 -- The links carry the acts between groups. Public: crates above cite `quotient_carries`.
-use Rattle.std.proofs.Common.{◌≡◌, ℕ, zero, suc, ◌+◌, ◌-◌, ◌<◌, ◌≤◌, ◌≢◌, max, Bool, true, false, ◌&&◌, ◌||◌, List, [], ◌∷◌, map, length, ◌⊎◌, inl, inr, Some, None, refl, sym, ◌∙◌, ap, subst, arith, eq-eqb}
+use Rattle.std.proofs.Common.{◌≡◌, ℕ, zero, suc, ◌+◌, ◌-◌, ◌<◌, ◌≤◌, ◌≢◌, max, Bool, true, false, ◌&&◌, ◌||◌, List, [], ◌∷◌, map, length, ◌⊎◌, inl}
+use Rattle.std.proofs.Common.{inr, Some, None, refl, sym, ◌∙◌, ap, subst, arith, eq-eqb}
 use Rattle.std.specs.Prelude.{Contains, filter, slice_get, slice_index, nat_eq, if◌then◌else◌, option_map}
 use Rattle.std.specs.List.{range_with_len, list_any, fold}
 use Rattle.std.proofs.lemmas.Option.{slice_get-map, slice_get_within, get_or_from_slice_get}
@@ -8,9 +9,11 @@ use Rattle.std.proofs.lemmas.Bool.{cases_lt}
 use Rattle.base_kit.specs.declared.act_graph.Edge.{Edge}
 use Rattle.abstract_net.specs.declared.qlink.QLink.{QLink}
 use Rattle.abstract_net.specs.Carried.{HasEdgeBetween}
-use Rattle.base_kit.proofs.Elements.{In, contains_in, in_contains, in_map, map_in, in_filter, filter_in, in_flat_map, flat_map_in, in_get, get_in, in_range, range_in}
+use Rattle.base_kit.proofs.Elements.{In, contains_in, in_contains, in_map, map_in, in_filter, filter_in, in_flat_map, flat_map_in, in_get, get_in}
+use Rattle.base_kit.proofs.Elements.{in_range, range_in}
 use Rattle.abstract_net.specs.Carried.{IsJoined, side_of, act_at, IsEdgeAt, IsCarried, IsBelow}
-use Rattle.abstract_net.specs.Links.{link_at, importer_at, exporter_at, link_bound, on_link, by_link, goes, first_acts, acts_into, group_link, links_of_pair, group_links_from, quotient_links, IsInside, QuotientCarries}
+use Rattle.abstract_net.specs.Links.{link_at, importer_at, exporter_at, link_bound, on_link, by_link, goes, first_acts, acts_into, group_link}
+use Rattle.abstract_net.specs.Links.{links_of_pair, group_links_from, quotient_links, IsInside, QuotientCarries}
 
 eq_from_test : (a b : ℕ) → nat_eq a b ≡ true → a ≡ b
 eq_from_test a b h = grind (arith, nat_tests)

@@ -1,30 +1,28 @@
 -- The links of the sorted steps are the links between groups.
-use Rattle.std.proofs.Common.{◌≡◌, ◌≢◌, ℕ, zero, suc, ◌+◌, ◌-◌, ◌<◌, ◌≤◌, Bool, true, false, List, [], ◌∷◌, ◌++◌, refl, sym, ◌∙◌, ap, arith, inl, inr}
-use Rattle.std.specs.Prelude.{filter, filter_map, flat_map, nat_eq}
+use Rattle.std.proofs.Common.{◌≡◌, ◌≢◌, ℕ, zero, suc, ◌+◌, ◌-◌, ◌<◌, ◌≤◌, Bool, true, false, List, [], ◌∷◌, ◌++◌, length, refl, sym, ◌∙◌, ap, arith, inl, inr}
+use Rattle.std.specs.Prelude.{filter_map, flat_map, nat_eq}
 use Rattle.std.specs.List.{range_with_len}
-use Rattle.std.proofs.lemmas.List.Elements.{filter-append}
+use Rattle.std.proofs.lemmas.List.Elements.{All-contains}
 use Rattle.std.proofs.lemmas.Bool.{cases_lt}
 use Rattle.std.proofs.lemmas.Bool.Decides.{nat_tests}
 use Rattle.base_kit.specs.declared.act_graph.Edge.{Edge}
-use Rattle.base_kit.proofs.Elements.{In}
+use Rattle.base_kit.proofs.Elements.{In, contains_in}
 use Rattle.by_key.specs.ByKey.{with_key, by_key}
-use Rattle.by_key.proofs.KeyedItems.{key_is}
+use Rattle.by_key.proofs.KeyedItems.{key_is, by_key_in}
 use Rattle.abstract_net.specs.declared.steps.Step.{Step}
-use Rattle.abstract_net.specs.Links.{by_link, acts_into, joined_sides, links_of_pair, group_links_from, quotient_links}
-use Rattle.abstract_net.specs.GroupSteps.{step_at, low_of, high_of, first_kinds, none_met, sorted_steps, edges_into, links_of_run, same_ends, links_of_steps}
-use Rattle.abstract_net.proofs.FirstKinds.{first_kinds_in, cell_of_kinds, edges_of_kinds}
+use Rattle.abstract_net.specs.Early.{IsStep, AreEarly}
+use Rattle.abstract_net.specs.Links.{by_link, link_bound, acts_into, joined_sides, links_of_pair, group_links_from, quotient_links}
+use Rattle.abstract_net.specs.GroupSteps.{step_at, low_of, high_of, link_of, first_kinds, none_met, sorted_by, edges_into, links_of_run, same_ends}
+use Rattle.abstract_net.specs.GroupSteps.{links_of_steps}
+use Rattle.abstract_net.proofs.ByKeys.{filter_flat, filter_by_key}
+use Rattle.abstract_net.proofs.EarlySteps.{real_below, early_end}
+use Rattle.abstract_net.proofs.FirstKinds.{cell_of_kinds, edges_of_kinds}
 use Rattle.abstract_net.proofs.Places.{cell, low_before_high, into_low, into_high}
 use Rattle.abstract_net.proofs.RunLinks.{links_one, links_parts}
+use Rattle.abstract_net.proofs.SortedSteps.{sorted_by_is, sorted_by_none}
+use Rattle.abstract_net.proofs.StepLists.{IsWithin}
 
-filter_flat : {X Y : Type 0} (p : Y → Bool) (f : X → List Y) (xs : List X) → filter p (flat_map f xs) ≡ flat_map (λ x. filter p (f x)) xs
-filter_flat p f [] = refl
-filter_flat p f (x ∷ xs) = filter-append p (f x) (flat_map f xs) ∙ ap (λ ys. filter p (f x) ++ ys) (filter_flat p f xs)
-
-flat_alike : {X Y : Type 0} (f g : X → List Y) (xs : List X) → ((x : X) → f x ≡ g x) → flat_map f xs ≡ flat_map g xs
-flat_alike f g [] h = refl
-flat_alike f g (x ∷ xs) h = λ i. h x i ++ flat_alike f g xs h i
-
-none_in : {X : Type 0} (xs : List X) → ((x : X) → In xs x → ⊥) → xs ≡ []
+pub none_in : {X : Type 0} (xs : List X) → ((x : X) → In xs x → ⊥) → xs ≡ []
 none_in [] h = refl
 none_in (x ∷ xs) h = absurd (h x (inl refl))
 
@@ -55,12 +53,24 @@ from_later f g a (suc n) m low high before after = elim (cases_lt a m) [
     all_alike p q b zero h = refl
     all_alike p q b (suc k) h = λ i. h b (omega arith) i ++ all_alike p q (b + 1) k (λ j from. h j (omega arith)) i
 
-module _ (es : List Edge) (groups : List ℕ) (count : ℕ) where
+-- a run of one pair of groups, whose steps lead from the lower group to the higher one
+record InCell (g h : ℕ) (x : Step) : Type 0 where
+  low : x.low ≡ g
+  high : x.high ≡ h
+  ordered : x.low < x.high
+
+run_of : (g h : ℕ) (xs : List Step) (ins outs : List ℕ) → edges_into true (sorted_by link_of xs) ≡ ins → edges_into false (sorted_by link_of xs) ≡ outs →
+    ((x : Step) → In xs x → InCell g h x) → links_of_run xs ≡ joined_sides g h ins outs
+run_of g h [] ins outs a b all =
+    let none_in_low = ap (edges_into true) (sorted_by_none link_of) in
+    let none_in_high = ap (edges_into false) (sorted_by_none link_of) in
+    (λ i. joined_sides g h (sym none_in_low i) (sym none_in_high i)) ∙ (λ i. joined_sides g h (a i) (b i))
+run_of g h (x ∷ xs) ins outs a b all = let c = all x (inl refl) in λ i. joined_sides (c.low i) (c.high i) (a i) (b i)
+
+module _ (es : List Edge) (groups : List ℕ) (count : ℕ) (steps : List Step) (are : AreEarly es groups (length es) steps)
+    (within : (x : Step) → In steps x → IsWithin count x) where
   abbrev crossings : List Step
   crossings = filter_map (step_at es groups) (by_link es)
-
-  abbrev steps : List Step
-  steps = first_kinds none_met crossings
 
   abbrev row : ℕ → List Step
   row g = with_key low_of (by_key high_of count steps) g
@@ -71,24 +81,36 @@ module _ (es : List Edge) (groups : List ℕ) (count : ℕ) where
   in_row : (g : ℕ) (x : Step) → In (row g) x → x.low ≡ g
   in_row g x at = (key_is low_of (by_key high_of count steps) g x at).1
 
-  record InCell (g h : ℕ) (x : Step) : Type 0 where
-    low : x.low ≡ g
-    high : x.high ≡ h
-    ordered : x.low < x.high
+  of_cell : (g h : ℕ) (x : Step) → In (cell es groups steps g h) x → In steps x × (x.low ≡ g) × (x.high ≡ h)
+  of_cell g h x at =
+      let l = key_is low_of (with_key high_of steps h) g x at in
+      let u = key_is high_of steps h x l.0 in
+      (u.0, l.1, u.1)
 
   in_cell : (g h : ℕ) (x : Step) → In (cell es groups steps g h) x → InCell g h x
   in_cell g h x at =
-      let l = key_is low_of (with_key high_of steps h) g x at in
-      let u = key_is high_of steps h x l.0 in
-      record { low = l.1; high = u.1; ordered = low_before_high es groups (by_link es) x (first_kinds_in none_met crossings x u.0) }
+      let c = of_cell g h x at in
+      let k = All-contains (IsStep es groups) steps x are.real (contains_in steps x c.0) in
+      record { low = c.1; high = c.2; ordered = low_before_high es groups k.0 x k.2 }
 
-  run_of : (g h : ℕ) (xs : List Step) (ins outs : List ℕ) → edges_into true xs ≡ ins → edges_into false xs ≡ outs → ((x : Step) → In xs x → InCell g h x) →
-      links_of_run xs ≡ joined_sides g h ins outs
-  run_of g h [] ins outs a b all = λ i. joined_sides g h (a i) (b i)
-  run_of g h (x ∷ xs) ins outs a b all = let c = all x (inl refl) in λ i. joined_sides (c.low i) (c.high i) (a i) (b i)
+  abbrev in_order : List Step
+  in_order = by_key link_of (link_bound es) steps
 
-  edges_of_cell : (b : Bool) (g h : ℕ) → edges_into b (cell es groups steps g h) ≡ edges_into b (cell es groups crossings g h)
-  edges_of_cell b g h = ap (edges_into b) (cell_of_kinds crossings g h) ∙ edges_of_kinds b (cell es groups crossings g h)
+  cell_by_links : (g h : ℕ) → sorted_by link_of (cell es groups steps g h) ≡ cell es groups in_order g h
+  cell_by_links g h =
+      sorted_by_is link_of (cell es groups steps g h) (link_bound es) (λ x at. real_below es groups steps are.real x (of_cell g h x at).0)
+      ∙ sym (ap (λ (xs : List Step). with_key low_of xs g) (filter_by_key (λ (x : Step). nat_eq x.high h) link_of (link_bound es) steps)
+      ∙ filter_by_key (λ (x : Step). nat_eq x.low g) link_of (link_bound es) (with_key high_of steps h))
+
+  edges_of_kinds_in : (b : Bool) (g h : ℕ) (xs : List Step) → edges_into b (cell es groups (first_kinds none_met xs) g h) ≡ edges_into b (cell es groups xs g h)
+  edges_of_kinds_in b g h xs = ap (edges_into b) (cell_of_kinds xs g h) ∙ edges_of_kinds b (cell es groups xs g h)
+
+  edges_of_cell : (b : Bool) (g h : ℕ) → edges_into b (sorted_by link_of (cell es groups steps g h)) ≡ edges_into b (cell es groups crossings g h)
+  edges_of_cell b g h =
+      ap (edges_into b) (cell_by_links g h)
+      ∙ sym (edges_of_kinds_in b g h in_order)
+      ∙ ap (λ (xs : List Step). edges_into b (cell es groups xs g h)) (early_end es groups steps are)
+      ∙ edges_of_kinds_in b g h crossings
 
   cell_links : (g h : ℕ) → g < h → links_of_steps (cell es groups steps g h) ≡ links_of_pair es groups g h
   cell_links g h less =
@@ -117,8 +139,15 @@ module _ (es : List Edge) (groups : List ℕ) (count : ℕ) where
   all_rows a zero h = refl
   all_rows a (suc n) h = λ i. row_links a (omega arith) i ++ all_rows (a + 1) n (omega arith) i
 
-  pub links_are : links_of_steps (sorted_steps es groups count) ≡ quotient_links es groups count
-  unfolding sorted_steps quotient_links
+  in_count : sorted_by low_of (sorted_by high_of steps) ≡ by_key low_of count (by_key high_of count steps)
+  in_count =
+      let highs = sorted_by_is high_of steps count (λ x at. (within x at).high) in
+      ap (sorted_by low_of) highs
+      ∙ sorted_by_is low_of (by_key high_of count steps) count (λ x at. (within x (by_key_in high_of count steps x at)).low)
+
+  pub links_are : links_of_steps (sorted_by low_of (sorted_by high_of steps)) ≡ quotient_links es groups count
+  unfolding quotient_links
   links_are =
-      links_parts row 0 count (λ i j x y less a b. (let p = in_row i x a in let q = in_row j y b in low_differs x y (λ e. absurd (omega arith))))
+      ap links_of_steps in_count
+      ∙ links_parts row 0 count (λ i j x y less a b. (let p = in_row i x a in let q = in_row j y b in low_differs x y (λ e. absurd (omega arith))))
       ∙ all_rows 0 count (omega arith)

@@ -1,23 +1,23 @@
 -- Steps that are left out, since one of their kind stands before them on a link that is no higher.
-use Rattle.std.proofs.Common.{◌≡◌, ◌≢◌, ℕ, zero, suc, ◌+◌, ◌-◌, ◌<◌, ◌≤◌, Bool, true, false, cond, ◌&&◌, List, [], ◌∷◌, ◌++◌, length, nat_eq, Option, Some, None, ◌⊎◌, inl, inr, refl, sym, ◌∙◌, ap, subst, arith, append_assoc, append-nil, eq-eqb}
-use Rattle.std.specs.Prelude.{filter_map, flat_map}
+use Rattle.std.proofs.Common.{◌≡◌, ℕ, suc, ◌+◌, ◌-◌, ◌<◌, ◌≤◌, Bool, true, false, cond, ◌&&◌, List, [], ◌∷◌, ◌++◌, length, nat_eq, Option, Some, None}
+use Rattle.std.proofs.Common.{◌⊎◌, inl, inr, refl, sym, ◌∙◌, ap, subst, arith, append_assoc, append-nil, eq-eqb}
+use Rattle.std.specs.Prelude.{All, filter_map, flat_map}
 use Rattle.std.specs.Bool.{beq}
 use Rattle.std.specs.List.{range_with_len, cons_option}
 use Rattle.std.proofs.lemmas.Bool.{cases_lt}
 use Rattle.std.proofs.lemmas.Bool.Decides.{nat_tests}
-use Rattle.std.proofs.lemmas.List.Concat.{flat_map-append}
-use Rattle.std.proofs.lemmas.List.Elements.{All-push, filter-append, filter_map-append}
+use Rattle.std.proofs.lemmas.List.Elements.{All-contains, All-push, filter_map-append}
 use Rattle.base_kit.specs.declared.act_graph.Edge.{Edge}
-use Rattle.base_kit.proofs.Elements.{In, in_contains, in_left, in_right, in_filter, get_in}
+use Rattle.base_kit.proofs.Elements.{In, contains_in, in_contains, in_left, in_right, in_filter, get_in}
 use Rattle.by_key.specs.ByKey.{with_key, by_key}
 use Rattle.by_key.proofs.KeyedItems.{in_by_key}
-use Rattle.by_key.proofs.SortedByKey.{keep_same, keep_one}
 use Rattle.abstract_net.specs.declared.steps.Step.{Step}
-use Rattle.abstract_net.specs.Early.{link_of, PutsEarly, steps_from, AreEarly}
-use Rattle.abstract_net.specs.GroupSteps.{step_at, same_kind, met_too, first_kinds, none_met, first_steps}
+use Rattle.abstract_net.specs.Early.{PutsEarly, steps_from, IsStep, AreEarly}
+use Rattle.abstract_net.specs.GroupSteps.{step_at, link_of, same_kind, met_too, first_kinds, none_met, first_steps}
 use Rattle.abstract_net.specs.Links.{link_at, link_bound, by_link}
 use Rattle.abstract_net.proofs.Carried.{get_some, at_place, link_below}
 use Rattle.abstract_net.proofs.FirstKinds.{kinds_are}
+use Rattle.abstract_net.proofs.OneStep.{lower, front, back, with_it, without_it}
 use Rattle.abstract_net.proofs.Places.{filter_back, is_step}
 
 -- ---- a step of a kind that was met
@@ -68,84 +68,14 @@ left_out met (z ∷ xs) ys x y kind both at = by (λ m b a. left_out m xs ys x y
   by rest false e = ap (λ (l : List Step). z ∷ l)
       (rest (met_too z met) (both_met (same_kind z y) (same_kind z x) (met y) (met x) (same_kinds y x z kind) both) beside)
 
--- ---- a list by links, divided at one step
-
-range_split : (a m r n : ℕ) → n ≡ m + r → range_with_len a n ≡ range_with_len a m ++ range_with_len (a + m) r
-range_split a zero r n e =
-    let same : n ≡ r = omega arith in
-    let at : a ≡ a + 0 = omega arith in
-    ap (range_with_len a) same ∙ ap (λ k. range_with_len k r) at
-range_split a (suc m) r zero e = absurd (omega arith)
-range_split a (suc m) r (suc n) e =
-    let less : n ≡ m + r = omega arith in
-    let at : a + 1 + m ≡ a + suc m = omega arith in
-    ap (λ (l : List ℕ). a ∷ l) (range_split (a + 1) m r n less ∙ ap (λ k. range_with_len (a + 1) m ++ range_with_len k r) at)
-
-parts_at : (xs : List Step) (n k r : ℕ) → n ≡ k + suc r → by_key link_of n xs ≡ flat_map (with_key link_of xs) (range_with_len 0 k) ++
-    (with_key link_of xs k ++ flat_map (with_key link_of xs) (range_with_len (k + 1) r))
-parts_at xs n k r e =
-    let at : 0 + k ≡ k = omega arith in
-    ap (flat_map (with_key link_of xs)) (range_split 0 k (suc r) n e)
-    ∙ flat_map-append (with_key link_of xs) (range_with_len 0 k) (range_with_len (0 + k) (suc r))
-    ∙ ap (λ m. flat_map (with_key link_of xs) (range_with_len 0 k) ++ (with_key link_of xs m ++ flat_map (with_key link_of xs) (range_with_len (m + 1) r))) at
-
-regrouped : (a b c d : List Step) → a ++ ((b ++ c) ++ d) ≡ (a ++ b) ++ (c ++ d)
-regrouped a b c d = ap (λ (l : List Step). a ++ l) (append_assoc b c d) ∙ sym (append_assoc a b (c ++ d))
+-- ---- without one step
 
 module _ (before later : List Step) (x : Step) where
-  aside_at : (v : ℕ) → x.link ≢ v → with_key link_of (before ++ x ∷ later) v ≡ with_key link_of (before ++ later) v
-  aside_at v h = filter-append (λ s. nat_eq (link_of s) v) before (x ∷ later)
-      ∙ ap (λ (l : List Step). with_key link_of before v ++ l) (keep_same link_of x later v h)
-      ∙ sym (filter-append (λ s. nat_eq (link_of s) v) before later)
-
-  aside : (a n : ℕ) → ((v : ℕ) → a ≤ v → v < a + n → x.link ≢ v) →
-      flat_map (with_key link_of (before ++ x ∷ later)) (range_with_len a n) ≡ flat_map (with_key link_of (before ++ later)) (range_with_len a n)
-  aside a zero h = refl
-  aside a (suc n) h =
-      let here = aside_at a (h a (omega arith) (omega arith)) in
-      let rest = aside (a + 1) n (λ v low high. h v (omega arith) (omega arith)) in
-      λ i. here i ++ rest i
-
-  own_with : with_key link_of (before ++ x ∷ later) x.link ≡ with_key link_of before x.link ++ x ∷ with_key link_of later x.link
-  own_with = filter-append (λ s. nat_eq (link_of s) x.link) before (x ∷ later)
-      ∙ ap (λ (l : List Step). with_key link_of before x.link ++ l) (keep_one link_of x later x.link refl)
-
-  own_without : with_key link_of (before ++ later) x.link ≡ with_key link_of before x.link ++ with_key link_of later x.link
-  own_without = filter-append (λ s. nat_eq (link_of s) x.link) before later
-
-  abbrev lower : List Step
-  lower = flat_map (with_key link_of (before ++ later)) (range_with_len 0 x.link)
-
-  abbrev front : List Step
-  front = lower ++ with_key link_of before x.link
-
-  abbrev higher : ℕ → List Step
-  higher r = flat_map (with_key link_of (before ++ later)) (range_with_len (x.link + 1) r)
-
-  abbrev back : ℕ → List Step
-  back r = with_key link_of later x.link ++ higher r
-
-  with_it : (n r : ℕ) → n ≡ x.link + suc r → by_key link_of n (before ++ x ∷ later) ≡ front ++ x ∷ back r
-  with_it n r e =
-      let low = aside 0 x.link (λ v a b. absurd_at v a b) in
-      let high = aside (x.link + 1) r (λ v a b same. absurd (omega arith)) in
-      parts_at (before ++ x ∷ later) n x.link r e
-      ∙ (λ i. low i ++ (own_with i ++ high i))
-      ∙ regrouped lower (with_key link_of before x.link) (x ∷ with_key link_of later x.link) (higher r)
-    where
-      absurd_at : (v : ℕ) → 0 ≤ v → v < 0 + x.link → x.link ≢ v
-      absurd_at v a b same = absurd (omega arith)
-
-  without_it : (n r : ℕ) → n ≡ x.link + suc r → by_key link_of n (before ++ later) ≡ front ++ back r
-  without_it n r e =
-      parts_at (before ++ later) n x.link r e
-      ∙ ap (λ (l : List Step). lower ++ (l ++ higher r)) own_without
-      ∙ regrouped lower (with_key link_of before x.link) (with_key link_of later x.link) (higher r)
-
-  in_front : (y : Step) → In before y → y.link ≤ x.link → In front y
+  in_front : (y : Step) → In before y → y.link ≤ x.link → In (front before later x) y
   in_front y at low = elim (cases_lt y.link x.link) [
-    | inl less ↦ in_left lower (with_key link_of before x.link) y (in_by_key link_of x.link (before ++ later) y (in_left before later y at) less)
-    | inr more ↦ in_right lower (with_key link_of before x.link) y
+    | inl less ↦ in_left (lower before later x) (with_key link_of before x.link) y
+        (in_by_key link_of x.link (before ++ later) y (in_left before later y at) less)
+    | inr more ↦ in_right (lower before later x) (with_key link_of before x.link) y
         (let same : y.link ≡ x.link = omega arith in in_filter (λ s. nat_eq (link_of s) x.link) before y at (eq-eqb y.link x.link same))
   ]
 
@@ -154,9 +84,9 @@ module _ (before later : List Step) (x : Step) where
   first_without n y inside at kind low =
       let r : ℕ = n - x.link - 1 in
       let e : n ≡ x.link + suc r = omega arith in
-      ap (first_kinds none_met) (with_it n r e)
-      ∙ left_out none_met front (back r) x y kind (λ same. same) (inl (in_front y at low))
-      ∙ sym (ap (first_kinds none_met) (without_it n r e))
+      ap (first_kinds none_met) (with_it before later x n r e)
+      ∙ left_out none_met (front before later x) (back before later x r) x y kind (λ same. same) (inl (in_front y at low))
+      ∙ sym (ap (first_kinds none_met) (without_it before later x n r e))
 
 -- ---- the steps of edges, one by one
 
@@ -176,7 +106,7 @@ module _ (es : List Edge) (groups : List ℕ) where
   early_start steps none =
       let all : length es - 0 ≡ length es = omega arith in
       subst (AreEarly es groups 0) (sym none) (record {
-        below = λ k d h. absurd (omega arith);
+        real = λ k d h. absurd (omega arith);
         firsts =
             ap (λ n. first_kinds none_met (by_key link_of (link_bound es) (filter_map (step_at es groups) (range_with_len 0 n)))) all
             ∙ ap (first_kinds none_met) (steps_by_link (range_with_len 0 (link_bound es)) (range_with_len 0 (length es)));
@@ -202,7 +132,7 @@ module _ (es : List Edge) (groups : List ℕ) where
         let left : steps_from es groups place ≡ steps_from es groups (place + 1) =
         one_more place inside ∙ ap (λ (o : Option Step). cons_option o (steps_from es groups (place + 1))) none in
         record {
-          below = are.below;
+          real = are.real;
           firsts = ap (λ (l : List Step). first_kinds none_met (by_key link_of (link_bound es) (old ++ l))) (sym left) ∙ are.firsts;
         }
 
@@ -212,12 +142,12 @@ module _ (es : List Edge) (groups : List ℕ) where
 
     early_some : (new : List Step) (s : Step) → step_at es groups place ≡ Some s → PutsEarly old new (Some s) → AreEarly es groups (place + 1) new
     early_some new s at (inl pushed) = subst (AreEarly es groups (place + 1)) (sym pushed) (record {
-      below = All-push (λ (step : Step). step.link < link_bound es) old s are.below (link_inside place s inside at);
+      real = All-push (IsStep es groups) old s are.real (place, inside, at);
       firsts = ap (λ (l : List Step). first_kinds none_met (by_key link_of (link_bound es) l))
           (append_assoc old (s ∷ []) (steps_from es groups (place + 1)) ∙ with_step s at) ∙ are.firsts;
     })
     early_some new s at (inr put) = subst (AreEarly es groups (place + 1)) (sym put.0) (record {
-      below = are.below;
+      real = are.real;
       firsts =
           sym (first_without old (steps_from es groups (place + 1)) s (link_bound es) put.1.0 (link_inside place s inside at)
           (in_contains old put.1.0 put.1.1) put.1.2 put.1.3)
@@ -227,6 +157,10 @@ module _ (es : List Edge) (groups : List ℕ) where
     pub early_more : (new : List Step) (o : Option Step) → o ≡ step_at es groups place → PutsEarly old new o → AreEarly es groups (place + 1) new
     early_more new None is put = subst (AreEarly es groups (place + 1)) (sym put) (early_none (sym is))
     early_more new (Some s) is put = early_some new s (sym is) put
+
+  -- the links of steps of edges are below the bound
+  pub real_below : (steps : List Step) → All (IsStep es groups) steps → (x : Step) → In steps x → x.link < link_bound es
+  real_below steps real x at = let k = All-contains (IsStep es groups) steps x real (contains_in steps x at) in link_inside k.0 x k.1 k.2
 
   pub early_end : (steps : List Step) → AreEarly es groups (length es) steps
       → first_kinds none_met (by_key link_of (link_bound es) steps) ≡ first_steps es groups

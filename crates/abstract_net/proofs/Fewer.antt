@@ -1,6 +1,7 @@
 -- The links between groups are no more than those of the network. Public: crates above cite
 -- `no_more_links`.
-use Rattle.std.proofs.Common.{◌≡◌, ℕ, zero, suc, ◌+◌, ◌-◌, ◌<◌, ◌≤◌, ◌≢◌, min, max, Bool, true, false, ◌&&◌, List, [], ◌∷◌, ◌++◌, length, inl, inr, refl, ap, arith}
+use Rattle.std.proofs.Common.{◌≡◌, ℕ, zero, suc, ◌+◌, ◌-◌, ◌<◌, ◌≤◌, ◌≢◌, min, max, Bool, true, false, ◌&&◌, List, [], ◌∷◌, ◌++◌, length, inl, inr}
+use Rattle.std.proofs.Common.{refl, ap, arith}
 use Rattle.std.specs.Prelude.{filter, flat_map, nat_eq, if◌then◌else◌}
 use Rattle.std.specs.List.{range_with_len, list_any}
 use Rattle.std.proofs.lemmas.List.Elements.{filter-append}
@@ -11,7 +12,8 @@ use Rattle.base_kit.specs.declared.act_graph.Edge.{Edge}
 use Rattle.base_kit.proofs.Elements.{In}
 use Rattle.abstract_net.specs.Carried.{act_at}
 use Rattle.abstract_net.proofs.Sums.{total, one, length_total, length_mapped, total_swap, outside_range}
-use Rattle.abstract_net.specs.Links.{link_bound, on_link, by_link, goes, first_acts, acts_into, group_link, links_of_pair, group_links_from, quotient_links, is_pair, HasEnds, NoMoreLinks}
+use Rattle.abstract_net.specs.Links.{link_bound, on_link, by_link, goes, first_acts, acts_into, group_link, links_of_pair, group_links_from}
+use Rattle.abstract_net.specs.Links.{quotient_links, is_pair, HasEnds, NoMoreLinks}
 use Rattle.abstract_net.proofs.Carried.{range_above}
 
 if_length : (b : Bool) (x n : ℕ) (xs ys : List ℕ) → length xs ≤ n → length ys ≤ n → length (if b then xs else x ∷ ys) ≤ suc n

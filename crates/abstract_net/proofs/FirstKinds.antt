@@ -1,10 +1,8 @@
 -- The first steps of each kind, and what is made of them.
-use Rattle.std.proofs.Common.{◌≡◌, ℕ, Bool, true, false, cond, ◌&&◌, List, [], ◌∷◌, ◌++◌, get_or, nat_eq, Option, Some, refl, sym, ◌∙◌, ap, subst, arith, inl, inr, append_assoc}
-use Rattle.std.specs.Prelude.{All, filter, not}
-use Rattle.std.specs.List.{cons_option}
+use Rattle.std.proofs.Common.{◌≡◌, ℕ, Bool, true, false, cond, ◌&&◌, List, [], ◌∷◌, nat_eq, refl, sym, ◌∙◌, ap, arith, inl, inr}
+use Rattle.std.specs.Prelude.{filter}
 use Rattle.std.specs.Bool.{beq}
 use Rattle.std.proofs.lemmas.Bool.Decides.{nat_tests}
-use Rattle.std.proofs.lemmas.List.Elements.{All-push}
 use Rattle.base_kit.proofs.Elements.{In}
 use Rattle.by_key.specs.ByKey.{with_key}
 use Rattle.abstract_net.specs.declared.steps.Step.{Step}
@@ -146,35 +144,3 @@ cell_of_kinds xs g h =
     ap (λ (ys : List Step). with_key low_of ys g)
     (filter_kinds (λ x. nat_eq x.high h) (λ x y e. ap (λ n. nat_eq n h) (kinds_are x y e).high) none_met none_met (λ y e. refl) xs)
     ∙ filter_kinds (λ x. nat_eq x.low g) (λ x y e. ap (λ n. nat_eq n g) (kinds_are x y e).low) none_met none_met (λ y e. refl) (with_key high_of xs h)
-
-not_true : (b : Bool) → not b ≡ true → b ≡ false
-not_true true e = absurd cc
-not_true false e = refl
-
--- a step of a new kind was put last
-pub new_kind : (met met' : Step → Bool) (old new : List Step) (step : Step) (o : Option Step) (later : List Step) → o ≡ Some step → not (met step) ≡ true →
-    ((y : Step) → met' y ≡ met_too step met y) → new ≡ old ++ step ∷ [] → new ++ first_kinds met' later ≡ old ++ first_kinds met (cons_option o later)
-new_kind met met' old new step o later is fresh more pushed =
-    ap (λ (xs : List Step). xs ++ first_kinds met' later) pushed
-    ∙ append_assoc old (step ∷ []) (first_kinds met' later)
-    ∙ (λ i. old ++ step ∷ first_kinds (λ y. more y i) later)
-    ∙ sym (ap (λ b. old ++ cond b (first_kinds met later) (step ∷ first_kinds (met_too step met) later)) (not_true (met step) fresh))
-    ∙ sym (ap (λ (x : Option Step). old ++ first_kinds met (cons_option x later)) is)
-
--- what was met is met still, and the step that was put last is met too
-pub all_met : (met met' : Step → Bool) (old new : List Step) (step : Step) → All (λ s. met s ≡ true) old → ((y : Step) → met' y ≡ met_too step met y)
-    → new ≡ old ++ step ∷ [] → All (λ s. met' s ≡ true) new
-all_met met met' old new step before more pushed = subst (All (λ s. met' s ≡ true)) (sym pushed)
-    (All-push (λ s. met' s ≡ true) old step (λ k d inside. more (get_or old k d) ∙ still (same_kind step (get_or old k d)) _ (before k d inside))
-    (more step ∙ itself (same_kind step step) (same_as_itself step)))
-  where
-    still : (b c : Bool) → c ≡ true → cond b true c ≡ true
-    still true c known = refl
-    still false c known = known
-
-    itself : (b : Bool) → b ≡ true → cond b true (met step) ≡ true
-    itself true e = refl
-    itself false e = absurd cc
-
-    same_as_itself : (s : Step) → same_kind s s ≡ true
-    same_as_itself s = grind (arith, nat_tests)

@@ -1,12 +1,13 @@
 -- Steps by the places of their edges.
-use Rattle.std.proofs.Common.{◌≡◌, ◌≢◌, ℕ, ◌<◌, Bool, true, false, cond, ◌&&◌, ◌||◌, List, [], ◌∷◌, min, max, Option, Some, None, refl, sym, ◌∙◌, ap, arith, inl, inr}
+use Rattle.std.proofs.Common.{◌≡◌, ◌≢◌, ℕ, ◌<◌, Bool, true, false, cond, ◌&&◌, ◌||◌, List, [], ◌∷◌, min, max, Option, Some, None, refl, sym, ◌∙◌, ap}
+use Rattle.std.proofs.Common.{arith, inl, inr}
 use Rattle.std.specs.Prelude.{filter, filter_map, nat_eq, nat_lt}
 use Rattle.std.specs.Bool.{beq}
 use Rattle.std.specs.List.{list_any, cons_option}
 use Rattle.std.proofs.lemmas.List.Elements.{filter_agree}
 use Rattle.std.proofs.lemmas.Bool.Decides.{nat_tests}
 use Rattle.base_kit.specs.declared.act_graph.Edge.{Edge}
-use Rattle.base_kit.proofs.Elements.{In, filter_in, filter_map_in}
+use Rattle.base_kit.proofs.Elements.{In, filter_in}
 use Rattle.by_key.specs.ByKey.{with_key}
 use Rattle.abstract_net.specs.declared.steps.Step.{Step}
 use Rattle.abstract_net.specs.Carried.{act_at}
@@ -44,7 +45,7 @@ both_tests : {X : Type 0} (p : X → Bool) (x : X) (b c : Bool) (ys zs : List X)
 both_tests p x true c ys zs h e = ap (λ d. cond d (x ∷ filter p ys) (filter p ys)) h ∙ ap (λ us. cond c (x ∷ us) us) e
 both_tests p x false c ys zs h e = e
 
-filter_twice : {X : Type 0} (p q : X → Bool) (xs : List X) → filter p (filter q xs) ≡ filter (λ x. q x && p x) xs
+pub filter_twice : {X : Type 0} (p q : X → Bool) (xs : List X) → filter p (filter q xs) ≡ filter (λ x. q x && p x) xs
 filter_twice p q [] = refl
 filter_twice p q (x ∷ xs) = both_tests p x (q x) (p x) (filter q xs) (filter (λ y. q y && p y) xs) refl (filter_twice p q xs)
 
@@ -86,10 +87,9 @@ module _ (es : List Edge) (groups : List ℕ) where
           edge = sym (ap (λ (s : Step). s.edge) same);
         }
 
-  pub low_before_high : (ks : List ℕ) (x : Step) → In (filter_map (step_at es groups) ks) x → x.low < x.high
-  low_before_high ks x at =
-      let k = filter_map_in (step_at es groups) ks x at in
-      let s = is_step k.0 x k.2 in
+  pub low_before_high : (k : ℕ) (x : Step) → step_at es groups k ≡ Some x → x.low < x.high
+  low_before_high k x at =
+      let s = is_step k x at in
       let l = s.low in let h = s.high in let d = s.differ in
       omega arith
 

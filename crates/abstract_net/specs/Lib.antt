@@ -1,5 +1,5 @@
 pub mod Carried
 pub mod Links
 pub mod GroupSteps
-pub mod Met
 pub mod Early
+pub mod Least

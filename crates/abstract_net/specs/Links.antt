@@ -1,7 +1,8 @@
 -- The links between groups, in order, and what holds of them (Beckett, Gupta, Mahajan and Walker,
 -- Control Plane Compression, SIGCOMM 2018, section 5). A partition is the list of the groups of the
 -- routers, and an edge is named by its place in the list of edges.
-use Rattle.std.specs.Prelude.{ℕ, ◌+◌, ◌-◌, ◌<◌, Bool, ◌&&◌, List, [], ◌∷◌, map, filter, flat_map, nat_eq, slice_get, slice_index, length, max, if◌then◌else◌, Contains, ◌≢◌, ◌≤◌, ◌||◌}
+use Rattle.std.specs.Prelude.{ℕ, ◌+◌, ◌-◌, ◌<◌, Bool, ◌&&◌, List, [], ◌∷◌, map, filter, flat_map, nat_eq, slice_get, slice_index, length, max}
+use Rattle.std.specs.Prelude.{if◌then◌else◌, Contains, ◌≢◌, ◌≤◌, ◌||◌}
 use Rattle.std.specs.List.{range_with_len, list_any, fold}
 use Rattle.base_kit.specs.declared.act_graph.Edge.{Edge}
 use Rattle.abstract_net.specs.declared.qlink.QLink.{QLink}

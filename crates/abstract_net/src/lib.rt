@@ -8,7 +8,6 @@
 #![tactic(auto)]
 
 mod by_group;
-mod by_link;
 pub mod laws;
 mod links;
 mod qlink;

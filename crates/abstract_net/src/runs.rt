@@ -1,9 +1,11 @@
 //! Steps between the same two groups, put together as their links.
 
-ghost use Rattle.std.specs.Prelude.{◌≡◌, ℕ, ◌<◌, ◌≤◌, ◌++◌, [], ◌∷◌, List, true, false, IfOk, IfSome, OnOk, length, slice_get, slice_index_or, nat_eq};
+ghost use Rattle.std.specs.Prelude.{◌≡◌, ℕ, ◌<◌, ◌≤◌, ◌++◌, [], ◌∷◌, List, true, false, IfOk, IfSome, OnOk, length, option_map, slice_get, slice_index_or, nat_eq};
 ghost use Rattle.std.specs.HashSet as set;
+ghost use Rattle.std.specs.List.{cons_option};
 ghost use Rattle.abstract_net.specs.Links.{joined_sides};
-ghost use Rattle.abstract_net.specs.GroupSteps.{first_new, edges_into, links_of_run, links_of_steps, same_ends};
+ghost use Rattle.abstract_net.specs.GroupSteps.{link_of, sorted_by, first_new, edges_into, links_of_run, links_of_steps, same_ends};
+ghost use Rattle.abstract_net.specs.Least.{is_of_other_act, lower_of};
 
 use crate::qlink::QLink;
 use crate::steps::Step;
@@ -22,7 +24,7 @@ fn push_new(met: &mut HashSet<u32>, edges: &mut Vec<u32>, step: &Step) -> Result
     Ok(())
 }
 
-// The first edges of the different acts of one direction.
+// The first edges of the different acts of one direction, in a run by links.
 fn first_edges(alloc: Global, run: &[Step], into_low: bool) -> Result<Vec<u32>, NoMemory>
     ensures { IfOk result (λ edges. edges.items ≡ edges_into into_low run.now) }
 {
@@ -63,55 +65,82 @@ fn push_joined(
     Ok(())
 }
 
-// The link of a step that is alone between its groups.
-fn link_of_one(step: &Step) -> QLink
-    ensures { links_of_run (step.now ∷ []) ≡ result ∷ [] }
+fn is_of_other_act(least: Option<Step>, step: &Step) -> bool
+    ensures { result ≡ is_of_other_act least step.now }
 {
-    if step.into_low {
-        return QLink {
-            low: step.low,
-            high: step.high,
-            to_low: Some(step.edge),
-            to_high: None,
-        };
-    }
-    QLink {
-        low: step.low,
-        high: step.high,
-        to_low: None,
-        to_high: Some(step.edge),
+    match least {
+        Some(least) => least.act != step.act,
+        None => false,
     }
 }
 
-// The link of two steps between the same groups, if they lead in both directions.
-fn link_of_two(first: &Step, second: &Step) -> Option<QLink>
-    ensures { IfSome result (λ link. links_of_run (first.now ∷ second.now ∷ []) ≡ link ∷ []) }
+// The one of the two steps on the lower link, the first on the same link.
+fn lower_of(least: Option<Step>, step: &Step) -> Step
+    ensures { result ≡ lower_of least step.now }
 {
-    if first.into_low == second.into_low {
-        return None;
+    match least {
+        Some(least) => { if step.link < least.link { *step } else { least } }
+        None => *step,
     }
-    let (to_low, to_high) = if first.into_low {
-        (first.edge, second.edge)
-    } else {
-        (second.edge, first.edge)
-    };
-    Some(QLink {
-        low: first.low,
-        high: first.high,
-        to_low: Some(to_low),
-        to_high: Some(to_high),
-    })
 }
 
-// The link of a run of one or two steps, if it has only one. Most runs are of this form, and need no table.
+fn edge_of(step: Option<Step>) -> Option<u32>
+    ensures { result ≡ option_map (λ (step : Step). step.edge) step }
+{
+    match step {
+        Some(step) => Some(step.edge),
+        None => None,
+    }
+}
+
+// The first edge by links of the act of a direction, if the direction has no other act.
+fn only_edge(run: &[Step], into_low: bool) -> Option<Option<u32>>
+    ensures { IfSome result (λ edge. edges_into into_low (sorted_by link_of run.now) ≡ cons_option edge []) }
+{
+    let mut least = None;
+    for step in run {
+        if step.into_low == into_low {
+            if is_of_other_act(least, step) {
+                return None;
+            }
+            least = Some(lower_of(least, step));
+        }
+    }
+    Some(edge_of(least))
+}
+
+// The link of a run with at most one act in each direction. Most runs are of this form, and need no table.
 fn single_link(run: &[Step]) -> Option<QLink>
     ensures { IfSome result (λ link. links_of_run run.now ≡ link ∷ []) }
 {
-    match run {
-        [only] => Some(link_of_one(only)),
-        [first, second] => link_of_two(first, second),
-        _ => None,
+    let first = run.first()?;
+    let to_low = only_edge(run, true)?;
+    let to_high = only_edge(run, false)?;
+    if to_low.is_none() && to_high.is_none() {
+        return None;
     }
+    Some(QLink {
+        low: first.low,
+        high: first.high,
+        to_low,
+        to_high,
+    })
+}
+
+fn sort_by_link(steps: &mut Vec<Step>) -> Result<(), NoMemory>
+    ensures { IfOk result (λ _. steps.new.items ≡ sorted_by link_of steps.old.items) }
+{
+    steps.sort_by_key(|step| step.link)?;
+    Ok(())
+}
+
+fn sorted_run(alloc: Global, run: &[Step]) -> Result<Vec<Step>, NoMemory>
+    ensures { IfOk result (λ steps. steps.items ≡ sorted_by link_of run.now) }
+{
+    let mut steps = Vec::with_capacity(alloc, run.len())?;
+    steps.extend_from_slice(run)?;
+    sort_by_link(&mut steps)?;
+    Ok(steps)
 }
 
 fn push_run(alloc: Global, links: &mut List<QLink>, run: &[Step]) -> Result<(), NoMemory>
@@ -123,8 +152,9 @@ fn push_run(alloc: Global, links: &mut List<QLink>, run: &[Step]) -> Result<(), 
     let Some(first) = run.first() else {
         return Ok(());
     };
-    let to_low = first_edges(alloc, run, true)?;
-    let to_high = first_edges(alloc, run, false)?;
+    let steps = sorted_run(alloc, run)?;
+    let to_low = first_edges(alloc, &steps, true)?;
+    let to_high = first_edges(alloc, &steps, false)?;
     push_joined(links, first.low, first.high, &to_low, &to_high)
 }
 

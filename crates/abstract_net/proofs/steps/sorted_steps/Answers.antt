@@ -1,10 +1,10 @@
-use Rattle.std.proofs.Common.{ℕ, List}
-use Rattle.abstract_net.proofs.StepLists.{sorted_are}
+use Rattle.std.proofs.Common.{◌∙◌, ap}
+use Rattle.abstract_net.specs.GroupSteps.{low_of, sorted_by}
 use Rattle.abstract_net.proofs.steps.sorted_steps.Goals as goal
 
 pub returns : goal.returns
-returns c = λ count numbered.
-    let groups : List ℕ = c.args.p.now in
-    sorted_are c.args.edges.now groups count numbered c.requires.importers c.requires.exporters
-    _ _ _ c.in_ok-steps.ensures
-    c.in_ok-put_by_high.ensures c.in_ok-put_by_low.ensures
+returns c = record {
+  early = c.in_ok-steps.steps.items;
+  are = c.in_ok-steps.ensures;
+  sorted = c.in_ok-put_by_low.ensures ∙ ap (sorted_by low_of) c.in_ok-put_by_high.ensures;
+}
