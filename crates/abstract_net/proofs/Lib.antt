@@ -1,6 +1,7 @@
 mod ByKeys
 pub mod Carried
 mod Cells
+mod EachRun
 mod EarlySteps
 pub mod Fewer
 mod FirstKinds
@@ -9,6 +10,7 @@ mod OneStep
 mod Places
 mod RunEnds
 mod RunLinks
+mod RunsByHigh
 mod SortedSteps
 mod StepLists
 mod Sums

@@ -2,9 +2,9 @@
 
 ghost use Rattle.std.specs.Prelude.{◌≡◌, ◌<◌, ◌^◌, true, All, IfOk, OnOk, length};
 ghost use Rattle.abstract_net.specs.Early.{IsPreceded, PutsEarly, AreEarly, AreGroupSteps};
-ghost use Rattle.abstract_net.specs.GroupSteps.{step_of, low_of, high_of, same_kind, sorted_by};
+ghost use Rattle.abstract_net.specs.GroupSteps.{step_of, same_kind};
 
-use crate::by_group::{order_by_high, order_by_low};
+use crate::by_group::sort_by_groups;
 use base_kit::{Edge, NoMemory};
 use refine_partition::Partition;
 use std::alloc::Global;
@@ -91,47 +91,6 @@ fn early_steps(alloc: Global, edges: &[Edge], p: &Partition) -> Result<Vec<Step>
     Ok(steps)
 }
 
-fn sort_by_high(steps: &mut Vec<Step>) -> Result<(), NoMemory>
-    ensures { IfOk result (λ _. steps.new.items ≡ sorted_by high_of steps.old.items) }
-{
-    steps.sort_by_key(|step| step.high)?;
-    Ok(())
-}
-
-fn sort_by_low(steps: &mut Vec<Step>) -> Result<(), NoMemory>
-    ensures { IfOk result (λ _. steps.new.items ≡ sorted_by low_of steps.old.items) }
-{
-    steps.sort_by_key(|step| step.low)?;
-    Ok(())
-}
-
-// Up to so many steps are sorted; more are ordered by one pass over them and the groups.
-const FEW_TO_SORT: usize = 64;
-
-fn are_many(count: usize) -> bool
-    ensures { result ≡ true → count < 2 ^ 32 }
-{
-    FEW_TO_SORT < count && count < 4_294_967_296
-}
-
-fn put_by_high(alloc: Global, steps: &mut Vec<Step>) -> Result<(), NoMemory>
-    ensures { OnOk result (steps.new.items ≡ sorted_by high_of steps.old.items) }
-{
-    if are_many(steps.len()) {
-        return order_by_high(alloc, steps);
-    }
-    sort_by_high(steps)
-}
-
-fn put_by_low(alloc: Global, steps: &mut Vec<Step>) -> Result<(), NoMemory>
-    ensures { OnOk result (steps.new.items ≡ sorted_by low_of steps.old.items) }
-{
-    if are_many(steps.len()) {
-        return order_by_low(alloc, steps);
-    }
-    sort_by_low(steps)
-}
-
 /// The edges between groups, by the lower group, then the higher group. Between two groups stands the
 /// first edge by links of each act in each direction, and other edges may stand too.
 pub fn sorted_steps(alloc: Global, edges: &[Edge], p: &Partition) -> Result<Vec<Step>, NoMemory>
@@ -141,7 +100,6 @@ pub fn sorted_steps(alloc: Global, edges: &[Edge], p: &Partition) -> Result<Vec<
     ensures { IfOk result (λ steps. AreGroupSteps edges.now p.now steps.items) }
 {
     let mut steps = early_steps(alloc, edges, p)?;
-    put_by_high(alloc, &mut steps)?;
-    put_by_low(alloc, &mut steps)?;
+    sort_by_groups(alloc, &mut steps)?;
     Ok(steps)
 }

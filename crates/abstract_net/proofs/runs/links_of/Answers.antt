@@ -1,4 +1,4 @@
-use Rattle.abstract_net.proofs.RunEnds.{at_end, one_more}
+use Rattle.abstract_net.proofs.RunLinks.{at_end, one_more}
 use Rattle.abstract_net.proofs.runs.links_of.Goals as goal
 
 pub loop-start-preserved : goal.loop-start-preserved
@@ -6,7 +6,8 @@ loop-start-preserved c =
     let ends = c.run_end-end.ensures in
     record {
       within = ends.within;
-      so_far = one_more c.args.steps.now c.loop-start.start c.run_end-end.result ends.more ends.within ends.same ends.after c.loop-start.links _ _
+      so_far = one_more c.args.steps.now c.loop-start.start c.run_end-end.result
+          (record { more = ends.more; within = ends.within; one_kind = ends.same; after = ends.after }) c.loop-start.links _ _
           c.loop-start.invariant.so_far c.in_ok-push_run.ensures;
     }
 
