@@ -119,6 +119,11 @@ class Size:
     links_after: int
 
 
+def variable_of(name: str) -> str:
+    """The variable of the environment that names another program in the place of this one."""
+    return f"{name.upper().replace('-', '_')}_PROGRAM"
+
+
 class Program:
     """The program of a path, or the one that the launcher of its name gives: `bonsai`, `bonsai-ask` or `bonsai-all` at the
     top of the repository, or on the path.
@@ -128,7 +133,7 @@ class Program:
 
     def __init__(self, path: str | None = None, name: str = BONSAI) -> None:
         self.name = name
-        here, variable = TOP / name, f"{name.upper().replace('-', '_')}_PROGRAM"
+        here, variable = TOP / name, variable_of(name)
         self.launcher = None if path else str(here) if here.is_file() else shutil.which(name)
         found = path or (None if self.launcher else os.environ.get(variable))
         if found:

@@ -35,7 +35,7 @@ from pathlib import Path
 from bonsainet.cli import command_line
 from bonsainet.cli.command_line import Refused
 from bonsainet.repo.pages import Room, pages, quoted_in, run_shown, shown_in
-from bonsainet.ask.program import TOP, Answer
+from bonsainet.ask.program import TOP, Answer, variable_of
 from bonsainet.ask.where import without_notices
 
 EXAMPLES = TOP / "examples"
@@ -357,7 +357,7 @@ def carry_out(given: argparse.Namespace) -> int:
 
 def program_of(name: str, given: str | None) -> str:
     """The file to run for a program: the one that is given, or that the environment names, or the launcher of the repository."""
-    wanted = given or os.environ.get(f"{name.upper().replace('-', '_')}_PROGRAM") or TOP / name
+    wanted = given or os.environ.get(variable_of(name)) or TOP / name
     found = shutil.which(wanted)
     if not found:
         raise Refused(f"{wanted}: there is no such program")
