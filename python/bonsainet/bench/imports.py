@@ -10,7 +10,6 @@ import csv
 import dataclasses
 import io
 import os
-import subprocess
 import tempfile
 import time
 from collections.abc import Callable
@@ -18,6 +17,7 @@ from pathlib import Path
 
 from bonsainet.ask.program import TOP, Program
 from bonsainet.bench.states import machine, with_compiled
+from bonsainet.bench.taken import taken
 from bonsainet.cli.command_line import Refused, parser, write_output
 from bonsainet.nets.campus import campus_text
 from bonsainet.nets.fat_tree import fat_tree_text
@@ -118,15 +118,9 @@ def measured(folder: Folder, states: dict[str, Path], runs: int) -> list[Row]:
 
 
 def run(clone: Path, folder: str) -> tuple[float, float, float]:
-    """An import by a clone: processor seconds, wall seconds, MiB. Refused where it ends with another status than 0."""
-    started = time.monotonic()
-    asked = ["/usr/bin/python3", str(clone / "tools" / "bonsai-import"), folder]
-    with subprocess.Popen(asked, stdout=subprocess.DEVNULL, stderr=subprocess.DEVNULL, env=with_compiled()) as process:
-        _, status, used = os.wait4(process.pid, 0)
-        process.returncode = os.waitstatus_to_exitcode(status)
-    if process.returncode:
-        raise Refused(f"{asked[1]} ended with status {process.returncode}")
-    return used.ru_utime + used.ru_stime, time.monotonic() - started, used.ru_maxrss / 1024
+    """An import by a clone: processor seconds, wall seconds, MiB."""
+    found = taken(["/usr/bin/python3", str(clone / "tools" / "bonsai-import"), folder], with_compiled())
+    return found.processors, found.wall, found.memory
 
 
 def csv_of(rows: list[Row], told: str) -> str:

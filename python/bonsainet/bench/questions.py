@@ -8,7 +8,6 @@ from __future__ import annotations
 
 import csv
 import dataclasses
-import hashlib
 import os
 import subprocess
 import sys
@@ -20,7 +19,7 @@ from bonsainet.ask.program import TOP
 from bonsainet.bench.measures import Run
 from bonsainet.bench.paper import TIME
 from bonsainet.bench.shapes import SHAPES
-from bonsainet.bench.states import in_ascii, kind, machine, program_at
+from bonsainet.bench.states import in_ascii, machine, program_at, programs_told
 from bonsainet.bench.tables import growth
 from bonsainet.cli.command_line import Refused
 from bonsainet.nets import preferring, synthetic
@@ -165,8 +164,7 @@ def work(program: Path, runs: int, keeps: bool, named: str | None) -> None:
 
 def told_of(programs: dict[str, Path], named: str | None) -> str:
     """Which programs of which state were measured, on which machine."""
-    sums = {crate: hashlib.sha256(place.read_bytes()).hexdigest()[:12] for crate, place in programs.items()}
-    told = ", ".join(f"{crate} ({kind(place)}, SHA-256 {sums[crate]})" for crate, place in programs.items())
+    told = programs_told(programs)
     return in_ascii(f"{named}: {told}; {machine()}" if named else f"{told}; {machine()}")
 
 

@@ -5,6 +5,7 @@ import argparse
 import hashlib
 import os
 import re
+from collections.abc import Mapping
 from pathlib import Path
 
 from bonsainet.repo import packing
@@ -49,11 +50,18 @@ def names_of(named: str | None, programs: list[Path]) -> list[str]:
 
 def told_of(programs: list[Path], names: list[str]) -> str:
     """Two states, and the machine."""
-    before, after = (
-        f"{name} ({kind(program)}, SHA-256 {hashlib.sha256(program.read_bytes()).hexdigest()[:12]})"
-        for name, program in zip(names, programs, strict=True)
-    )
+    before, after = (program_told(name, program) for name, program in zip(names, programs, strict=True))
     return in_ascii(f"before: {before}; after: {after}; {machine()}")
+
+
+def programs_told(programs: Mapping[str, Path]) -> str:
+    """Programs of one state by their names."""
+    return ", ".join(program_told(name, program) for name, program in programs.items())
+
+
+def program_told(name: str, program: Path) -> str:
+    """A program by a name: how it was made, and its checksum."""
+    return f"{name} ({kind(program)}, SHA-256 {hashlib.sha256(program.read_bytes()).hexdigest()[:12]})"
 
 
 def in_ascii(told: str) -> str:
