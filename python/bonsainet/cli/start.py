@@ -182,6 +182,11 @@ def bench_profile(words: list[str] | None = None) -> int:
     return start("profile", "bonsainet.bench.profile:main", words)
 
 
+def bench_tools(words: list[str] | None = None) -> int:
+    """Runs `bench/tools`."""
+    return start("tools", "bonsainet.bench.tools:main", words)
+
+
 def bench_turns(words: list[str] | None = None) -> int:
     """Runs `bench/turns`."""
     return start("turns", "bonsainet.bench.turns:main", words)
