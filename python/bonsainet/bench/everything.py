@@ -12,10 +12,12 @@ from pathlib import Path
 from types import ModuleType
 
 from bonsainet.ask.program import TOP, NotAnswered
-from bonsainet.bench import paper, plot, profile, questions, turns
+from bonsainet.bench import paper, plot, profile, questions, tools, turns
+from bonsainet.bench.checkouts import checkout_around
 from bonsainet.bench.states import add_named, names_of, program_at
 from bonsainet.cli.command_line import Refused, parser
 
+TOOL_RUNS = "3"
 Step = tuple[ModuleType, list[str]]
 
 
@@ -24,8 +26,8 @@ def words() -> argparse.ArgumentParser:
     made = parser(
         "all",
         "Measures two states of the program: `bench/turns --keep`, the same with --memory, `bench/profile --keep`, and of the state after `bench/paper --keep` and"
-        " `bench/turns --questions --keep`;"
-        " then `bench/plot` writes the plots and the tables of the pages. A run that ended early goes on where it was. Takes about a quarter of an hour, and longer where"
+        " `bench/turns --questions --keep`; of the checkouts in which the programs were built `bench/tools --keep`, which takes some six minutes of the time;"
+        " then `bench/plot` writes the plots and the tables of the pages. A run that ended early goes on where it was. Takes about twenty minutes, and longer where"
         " many rows of the states differ: these get more turns.",
     )
     states = "the state before, and the state after: programs that ./build proved, or others with a file PROGRAM.made: how it was made, and its SHA-256 (a line each)"
@@ -87,6 +89,9 @@ def packages(asks: bool) -> list[str]:
         "linux-perf": shutil.which("perf"),
         "time": os.access(paper.TIME, os.X_OK),
         "python3-matplotlib": importlib.util.find_spec("matplotlib"),
+        "graphviz": shutil.which("dot"),
+        "python3-graphviz": importlib.util.find_spec("graphviz"),
+        "python3-jinja2": importlib.util.find_spec("jinja2"),
         "z3": not asks or shutil.which("z3"),
     }
     return [package for package, found in needed.items() if not found]
@@ -104,5 +109,19 @@ def steps(arguments: argparse.Namespace) -> list[Step]:
         (profile, both),
         (paper, ["--keep", "--program", str(programs[1]), "--named", names[1]]),
         (turns, [str(programs[1]), "--questions", "--keep", "--runs", str(arguments.runs), "--named", names[1]]),
+        *of_tools(programs, names),
         (plot, []),
     ]
+
+
+def of_tools(programs: list[Path], names: list[str]) -> list[Step]:
+    """The step that measures the tools of the checkouts in which the programs were built: of both, or of the state after alone.
+    None where that program is elsewhere."""
+    places = [checkout_around(program) for program in programs]
+    for program in [program for program, place in zip(programs, places, strict=True) if not place]:
+        print(f"all: {program}: is in no checkout, so no tools of that state are measured", file=sys.stderr)
+    if not places[-1]:
+        return []
+    known = [(str(place), name) for place, name in zip(places, names, strict=True) if place]
+    named = ",".join(name for _, name in known)
+    return [(tools, [*(place for place, _ in known), "--keep", "--runs", TOOL_RUNS, "--named", named])]

@@ -6,7 +6,7 @@ import argparse
 from collections.abc import Callable
 from pathlib import Path
 
-from bonsainet.bench import profile, questions
+from bonsainet.bench import profile, questions, tool_rows
 from bonsainet.bench.kept import Table
 from bonsainet.bench.measures import MEMORY, SECONDS
 from bonsainet.bench.paper import KEPT, Row, read, table
@@ -72,6 +72,8 @@ def texts() -> dict[str, str]:
         made["questions"] = questions.questions_text(*questions.read())
     if profile.KEPT.is_file():
         made["profile"] = profile.profile_text()
+    if tool_rows.KEPT.is_file():
+        made["tools"] = tool_rows.tools_text(*tool_rows.read(tool_rows.KEPT))
     return made
 
 

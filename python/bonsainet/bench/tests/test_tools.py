@@ -10,12 +10,14 @@ import pytest
 
 from bonsainet.ask.native import program_file
 from bonsainet.ask.program import ALL, ASK, BONSAI, TOP, variable_of
-from bonsainet.bench import tool_rows, tools
-from bonsainet.bench.checkouts import checkout_at, commit_of, told_of
+from bonsainet.bench import everything, tool_rows, tools
+from bonsainet.bench.checkouts import checkout_around, checkout_at, commit_of, told_of
+from bonsainet.bench.plot import PAGES
 from bonsainet.bench.taken import taken
 from bonsainet.bench.tool_plans import FOLDER, GROUPS, TEXT, TOOLS, chosen, plans
 from bonsainet.bench.tool_rows import Row, read, tools_text, with_newer, write
 from bonsainet.cli.command_line import Refused
+from bonsainet.repo.marks import with_measured
 from bonsainet.tests.asking import needs
 
 PROGRAMS = (BONSAI, ASK, ALL)
@@ -231,3 +233,27 @@ def test_the_table_has_what_a_command_takes_above_another() -> None:
         "- Made with: two states, in 3 to 3 turns, at a load of 1.5 to 1.5.",
     ]
     assert "with one: none.\n" in tools_text("one state", [row("bonsai-page F", wall=4.0, goal=5.0)])
+
+
+def test_the_page_has_a_place_for_the_table() -> None:
+    page = PAGES[1].read_text("utf-8")
+    assert with_measured(page, "tools", "another table\n") != page
+
+
+def test_all_measurements_have_the_tools_of_the_checkouts(tmp_path: Path, capsys: pytest.CaptureFixture[str]) -> None:
+    old, new = built(made(tmp_path / "old"), BONSAI), built(made(tmp_path / "new"), BONSAI)
+    alone = script(tmp_path / "bonsai", "exit 0")
+    assert checkout_around(new) == tmp_path / "new" and checkout_around(alone) is None
+    for programs, folders, named in (
+        ([old, new], ["old", "new"], "a,b"),
+        ([alone, new], ["new"], "b"),
+        ([old, alone], [], ""),
+    ):
+        asked = everything.words().parse_args([*map(str, programs), "--named", "a,b"])
+        found = [words for tool, words in everything.steps(asked) if tool is tools]
+        assert len(found) == bool(folders)
+        for words in found:
+            given = tools.words().parse_args(words)
+            assert [it.name for it in (given.before, given.after) if it] == folders and given.keep
+            assert given.named == named
+        assert ("is in no checkout" in capsys.readouterr().err) == (alone in programs)
