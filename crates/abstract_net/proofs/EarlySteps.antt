@@ -88,6 +88,11 @@ module _ (before later : List Step) (x : Step) where
       ∙ left_out none_met (front before later x) (back before later x r) x y kind (λ same. same) (inl (in_front y at low))
       ∙ sym (ap (first_kinds none_met) (without_it before later x n r e))
 
+-- a step that is put last, if there is one
+pub puts_some : (old new : List Step) (o : Option Step) → ((later : List Step) → new ++ later ≡ old ++ cons_option o later) → PutsEarly old new o
+puts_some old new None put = sym (append-nil new) ∙ put [] ∙ append-nil old
+puts_some old new (Some s) put = inl (sym (append-nil new) ∙ put [])
+
 -- ---- the steps of edges, one by one
 
 module _ (es : List Edge) (groups : List ℕ) where

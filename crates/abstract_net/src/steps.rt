@@ -4,7 +4,7 @@ ghost use Rattle.std.specs.Prelude.{◌≡◌, ◌<◌, ◌^◌, true, All, IfOk
 ghost use Rattle.abstract_net.specs.Early.{IsPreceded, PutsEarly, AreEarly, AreGroupSteps};
 ghost use Rattle.abstract_net.specs.GroupSteps.{step_of, same_kind};
 
-use crate::by_group::sort_by_groups;
+use crate::by_group::{push_some, sort_by_groups};
 use base_kit::{Edge, NoMemory};
 use refine_partition::Partition;
 use std::alloc::Global;
@@ -62,12 +62,12 @@ fn has_earlier(steps: &[Step], step: &Step) -> bool
 // Up to so many steps are compared with the next one.
 const FEW: usize = 64;
 
-// Puts a step last, unless few steps stand there, and one of its kind, on a link that is no higher.
+// Puts a step last, unless one of its kind stands there, on a link that is no higher.
 fn push_early(steps: &mut Vec<Step>, step: Option<Step>) -> Result<(), NoMemory>
     ensures { OnOk result (PutsEarly steps.old.items steps.new.items step) }
 {
     if let Some(step) = step {
-        if steps.len() <= FEW && has_earlier(steps, &step) {
+        if has_earlier(steps, &step) {
             return Ok(());
         }
         steps.push(step)?;
@@ -84,9 +84,14 @@ fn early_steps(alloc: Global, edges: &[Edge], p: &Partition) -> Result<Vec<Step>
     ensures { IfOk result (λ steps. AreEarly edges.now p.now (length edges.now) steps.items) }
 {
     let mut steps = Vec::new(alloc);
-    for place in 0..edges.len() {
-        let step = step_of(p, place as u32, &edges[place]);
-        push_early(&mut steps, step)?;
+    let mut start = 0;
+    while start < edges.len() && steps.len() <= FEW {
+        push_early(&mut steps, step_of(p, start as u32, &edges[start]))?;
+        start += 1;
+    }
+    steps.reserve(edges.len() - start)?;
+    for place in start..edges.len() {
+        push_some(&mut steps, step_of(p, place as u32, &edges[place]));
     }
     Ok(steps)
 }
