@@ -93,6 +93,10 @@ fn run_end(arrivals: &[Import], start: usize) -> usize
     ensures after { (j : ℕ) (d : AnImport) → result ≤ j → j < length arrivals.now → act_of_import (slice_index_or arrivals.now start d) < act_of_import (slice_index_or arrivals.now j d) }
 {
     let act = arrivals[start].act;
+    let last = arrivals[arrivals.len() - 1].act;
+    if last == act {
+        return arrivals.len();
+    }
     let mut end = start + 1;
     while end < arrivals.len() && arrivals[end].act == act {
         end += 1;
