@@ -19,6 +19,18 @@ fn is_last(blocks: &[u32], block: u32) -> bool
     }
 }
 
+/// Whether each block stands before the next.
+fn are_in_order(blocks: &[u32]) -> bool
+    ensures { IsTrue result → IsStrictlyIncreasing blocks.now }
+{
+    for place in 1..blocks.len() {
+        if blocks[place] <= blocks[place - 1] {
+            return false;
+        }
+    }
+    true
+}
+
 /// The numbers of the blocks of the routers, ascending.
 pub fn touched_blocks(alloc: Global, numbers: &[u32], routers: &[u32]) -> Result<Vec<u32>, NoMemory>
     requires in_range { All (λ u. u < length numbers.now) routers.now }
@@ -31,6 +43,9 @@ pub fn touched_blocks(alloc: Global, numbers: &[u32], routers: &[u32]) -> Result
         if !is_last(&blocks, block) {
             blocks.push(block)?;
         }
+    }
+    if are_in_order(&blocks) {
+        return Ok(blocks);
     }
     blocks.sort()?;
     blocks.dedup();

@@ -20,6 +20,12 @@ loop-router-preserved c =
           rw (more, w.blocks-is) (touched_again _ _ router _ c.loop-router.invariant there)
     ]
 
+pub returns-then-are_in_order-clause-touched : goal.returns-then-are_in_order-clause-touched
+returns-then-are_in_order-clause-touched c = rw (take_all c.loop-router.router-index c.args.routers.now c.loop-router-test.false) at c.loop-router.invariant
+
+pub returns-then-are_in_order-clause-in_order : goal.returns-then-are_in_order-clause-in_order
+returns-then-are_in_order-clause-in_order c = rw c.deref-2.ensures.value at (c.are_in_order.ensures c.if-are_in_order.true)
+
 pub returns-clause-in_order : goal.returns-clause-in_order
 returns-clause-in_order c = rw (dedup_is nat_eq _ _ c.dedup.ensures.filtered) (IsStrictlyIncreasing-dedup _ c.in_ok-sort.ensures.sorted)
 
