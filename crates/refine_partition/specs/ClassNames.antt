@@ -1,5 +1,6 @@
 -- The names of classes: those of a few in a list of pairs. The table is asked first.
-use Rattle.std.specs.Prelude.{ℕ, Bool, true, false, List, [], ◌∷◌, Option, Some, None, nat_eq, if◌then◌else◌}
+use Rattle.std.specs.Prelude.{ℕ, List, [], ◌∷◌, Option, Some, None, nat_eq, if◌then◌else◌}
+use Rattle.std.specs.Option.{option_or}
 use Rattle.std.specs.declared.hash.FoldHasher.{FoldHasher}
 use Rattle.std.specs.declared.hash.BuildHasherDefault.{BuildHasherDefault}
 use Rattle.std.specs.HashMap.{get, HashMap}
@@ -11,16 +12,12 @@ named_among class [] found = found
 named_among class (pair ∷ pairs) found = named_among class pairs (if nat_eq pair.0 class then Some pair.1 else found)
 
 -- the name in the table, if there is one
-abbrev pub table_name : {V : Type 0} → Bool → HashMap ℕ V (BuildHasherDefault FoldHasher) → ℕ → Option V
-table_name false table class = None
-table_name true table class = get nat_eq table class
-
-abbrev pub first_of : {V : Type 0} → Option V → Option V → Option V
-first_of (Some name) other = Some name
-first_of None other = other
+abbrev pub table_name : {V : Type 0} → Option (HashMap ℕ V (BuildHasherDefault FoldHasher)) → ℕ → Option V
+table_name None class = None
+table_name (Some table) class = get nat_eq table class
 
 abbrev pub name_of : {V : Type 0} → NamesOf V → ℕ → Option V
-name_of names class = first_of (table_name names.has_table names.table class) (named_among class names.few.items None)
+name_of names class = option_or (table_name names.table class) (named_among class names.few.items None)
 
 -- names that are numbers
 abbrev pub ClassNames : Type 0

@@ -15,8 +15,7 @@ const FEW: usize = 8;
 pub struct ClassNames<V> {
     alloc: Global,
     few: Vec<(usize, V)>,
-    has_table: bool,
-    table: HashMap<usize, V>,
+    table: Option<HashMap<usize, V>>,
 }
 
 impl<V: Copy + Drop> ClassNames<V> {
@@ -27,8 +26,7 @@ impl<V: Copy + Drop> ClassNames<V> {
         ClassNames {
             alloc,
             few: Vec::new(alloc),
-            has_table: false,
-            table: HashMap::new(alloc),
+            table: None,
         }
     }
 
@@ -45,12 +43,12 @@ impl<V: Copy + Drop> ClassNames<V> {
     }
 
     fn name_in_table(&self, class: usize) -> Option<V>
-        ensures { result ≡ table_name self.now.has_table self.now.table class }
+        ensures { result ≡ table_name self.now.table class }
     {
-        if self.has_table {
-            return self.table.get(&class).copied();
+        match &self.table {
+            Some(table) => table.get(&class).copied(),
+            None => None,
         }
-        None
     }
 
     /// The name of a class.
@@ -68,15 +66,17 @@ impl<V: Copy + Drop> ClassNames<V> {
         ensures named { OnOk result (name_of self.new class ≡ Some name) }
         ensures others { OnOk result ((other : ℕ) → other ≢ class → name_of self.new other ≡ name_of self.old other) }
     {
-        if !self.has_table && self.few.len() < FEW {
+        if let Some(table) = &mut self.table {
+            table.insert(class, name)?;
+            return Ok(());
+        }
+        if self.few.len() < FEW {
             self.few.push((class, name))?;
             return Ok(());
         }
-        if !self.has_table {
-            self.table = HashMap::new(self.alloc);
-            self.has_table = true;
-        }
-        self.table.insert(class, name)?;
+        let mut table = HashMap::new(self.alloc);
+        table.insert(class, name)?;
+        self.table = Some(table);
         Ok(())
     }
 }
