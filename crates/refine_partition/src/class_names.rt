@@ -30,6 +30,14 @@ impl<V: Copy + Drop> ClassNames<V> {
         }
     }
 
+    /// No class has a name any more.
+    pub fn clear(&mut self)
+        ensures { (class : ℕ) → name_of self.new class ≡ None }
+    {
+        self.few.clear();
+        self.table = None;
+    }
+
     fn name_among_few(&self, class: usize) -> Option<V>
         ensures { result ≡ named_among class self.now.few.items None }
     {

@@ -52,9 +52,9 @@ fn note(reached: &mut Vec<u32>, router: u32, class: usize, count: usize) -> Resu
 /// Moves the importers out of their classes, those of one class into one fresh class, adds those that were
 /// in one of the first classes, and gives the first number above all classes.
 fn separate(
-    alloc: Global,
     classes: &mut Vec<usize>,
     reached: &mut Vec<u32>,
+    names: &mut ClassNames<usize>,
     count: usize,
     movers: &[Import],
     fresh: usize,
@@ -67,14 +67,14 @@ fn separate(
     ensures separated { IfOk result (λ next. IsSeparated classes.old.items classes.new.items movers.now fresh next) }
     ensures reached { IfOk result (λ next. AreReached classes.new.items count reached.new.items) }
 {
-    let mut names = ClassNames::new(alloc);
+    names.clear();
     let mut next = fresh;
     let mut last = None;
     for mover in movers {
         let class = classes[mover.importer as usize];
         if class < fresh {
             note(reached, mover.importer, class, count)?;
-            let name = name_after(&mut names, last, class, next)?;
+            let name = name_after(names, last, class, next)?;
             classes[mover.importer as usize] = name;
             next = next.max(name + 1);
             last = Some((class, name));
@@ -115,29 +115,30 @@ pub fn widened(alloc: Global, numbers: &[u32]) -> Result<Vec<usize>, NoMemory>
     Ok(classes)
 }
 
-/// Divides the classes by the acts of their routers' edges, and gives the first number above all classes
-/// and the routers with new ones: two routers are then in one class where they were and their edges have
-/// the same acts.
+/// Divides the classes by the acts of their routers' edges, fills the list with the routers that have new
+/// ones, and gives the first number above all classes: two routers are then in one class where they were
+/// and their edges have the same acts.
 pub fn divide_classes(
-    alloc: Global,
     classes: &mut Vec<usize>,
+    reached: &mut Vec<u32>,
+    names: &mut ClassNames<usize>,
     arrivals: &[Import],
     count: u32,
-) -> Result<(usize, Vec<u32>), NoMemory>
+) -> Result<usize, NoMemory>
     requires below { All (λ class. class < count) classes.old.items }
     requires in_range { All (λ a. a.importer < length classes.old.items) arrivals.now }
     requires in_order { IsNonDecreasingBy act_of_import arrivals.now }
-    ensures classes { IfOk result (λ r. AreClasses classes.old.items arrivals.now count classes.new.items r.0) }
-    ensures reached { IfOk result (λ r. AreReached classes.new.items count r.1.items) }
+    ensures classes { IfOk result (λ next. AreClasses classes.old.items arrivals.now count classes.new.items next) }
+    ensures reached { IfOk result (λ next. AreReached classes.new.items count reached.new.items) }
 {
-    let mut reached = Vec::new(alloc);
+    reached.clear();
     let mut next = count as usize;
     let mut start = 0;
     while start < arrivals.len() {
         let end = run_end(arrivals, start);
         let run = &arrivals[start..end];
-        next = separate(alloc, classes, &mut reached, count as usize, run, next)?;
+        next = separate(classes, reached, names, count as usize, run, next)?;
         start = end;
     }
-    Ok((next, reached))
+    Ok(next)
 }

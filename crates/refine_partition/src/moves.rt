@@ -8,7 +8,7 @@ ghost use Rattle.refine_partition.specs.Loose.{AreListed, AreMoved, AreUsed, IsM
 ghost use Rattle.refine_partition.specs.Touched.{AreTouched};
 
 use crate::class_names::ClassNames;
-use crate::staying::{name_class, staying_classes};
+use crate::staying::{name_class, name_staying};
 use base_kit::NoMemory;
 use std::alloc::Global;
 
@@ -76,9 +76,10 @@ fn move_router(
 }
 
 /// Moves the reached routers into the pieces of their classes, and gives for each new piece the block that
-/// it comes from.
+/// it comes from. The names are those of the pieces, whatever they were.
 pub fn move_reached(
     alloc: Global,
+    names: &mut ClassNames<u32>,
     numbers: &mut Vec<u32>,
     lists: &mut Vec<Vec<u32>>,
     classes: &[usize],
@@ -95,13 +96,13 @@ pub fn move_reached(
     ensures total { IfOk result (λ origins. length lists.new.items ≡ length lists.old.items + length origins.items) }
     ensures moved { IfOk result (λ origins. AreMoved numbers.old.items classes.now reached.now (length lists.old.items) numbers.new.items origins.items) }
 {
-    let mut names = staying_classes(alloc, lists, numbers, classes, touched)?;
+    name_staying(names, lists, numbers, classes, touched)?;
     let mut origins = Vec::new(alloc);
     let mut last = None;
     for router in reached {
         let class = classes[*router as usize];
         let origin = numbers[*router as usize];
-        let number = piece_after(alloc, &mut names, last, lists, &mut origins, class, origin)?;
+        let number = piece_after(alloc, names, last, lists, &mut origins, class, origin)?;
         move_router(numbers, lists, *router, number)?;
         last = Some((class, number));
     }

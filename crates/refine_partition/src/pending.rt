@@ -7,7 +7,7 @@ ghost use Rattle.refine_partition.specs.Pending.{AreAllWaiting, AreMarked, IsWai
 
 use crate::graph_view::GraphView;
 use crate::imports::Import;
-use crate::turn::{start, turn};
+use crate::turn::{Workspace, start, turn};
 use base_kit::{NoMemory, Steps};
 use std::alloc::Global;
 use std::collections::VecDeque;
@@ -101,9 +101,10 @@ pub fn refined<L: Ledger>(
     let _known = graph.count();
     let mut blocks = start(alloc, graph)?;
     let (mut queue, mut waits) = all_waiting(alloc, blocks.lists.len() as u32)?;
+    let mut work = Workspace::new(alloc);
     while let Some(block) = queue.pop_back() {
         waits[block as usize] = false;
-        let origins = turn(alloc, graph, imports, &mut blocks, block, turns)?;
+        let origins = turn(alloc, graph, imports, &mut blocks, block, &mut work, turns)?;
         add_pieces(&mut queue, &mut waits, &blocks.lists, &origins)?;
     }
     Ok(blocks.numbers)

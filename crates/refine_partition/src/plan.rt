@@ -4,12 +4,13 @@ ghost use Rattle.std.specs.Prelude.{◌≡◌, ◌<◌, ◌^◌, IfOk, length};
 ghost use Rattle.refine_partition.specs.Index.{IsImportIndex};
 ghost use Rattle.refine_partition.specs.Planned.{AreNumbered, IsPlanned};
 
-use crate::arrivals::arrivals_at;
+use crate::arrivals::list_arrivals;
+use crate::class_names::ClassNames;
 use crate::classes::{divide_classes, widened};
 use crate::graph_view::GraphView;
 use crate::imports::Import;
 use crate::renumbering::{Renumbering, renumbered};
-use crate::touched::{queue_of, touched_blocks};
+use crate::touched::{list_touched, queue_of};
 use base_kit::NoMemory;
 use std::alloc::Global;
 
@@ -39,11 +40,23 @@ pub fn planned(
 {
     let _known = graph.count();
     let members = &blocks[taken as usize];
-    let arrivals = arrivals_at(alloc, graph, imports, numbers, members, taken)?;
+    let mut arrivals = Vec::new(alloc);
+    list_arrivals(
+        alloc,
+        &mut arrivals,
+        graph,
+        imports,
+        numbers,
+        members,
+        taken,
+    )?;
     let count = blocks.len() as u32;
     let mut classes = widened(alloc, numbers)?;
-    let (class_count, reached) = divide_classes(alloc, &mut classes, &arrivals, count)?;
-    let touched = touched_blocks(alloc, numbers, &reached)?;
+    let mut reached = Vec::new(alloc);
+    let mut names = ClassNames::new(alloc);
+    let class_count = divide_classes(&mut classes, &mut reached, &mut names, &arrivals, count)?;
+    let mut touched = Vec::new(alloc);
+    list_touched(&mut touched, numbers, &reached)?;
     let queue = queue_of(alloc, numbers, blocks, &touched)?;
     let renumbering = renumbered(alloc, numbers, blocks, &classes, class_count, &queue)?;
     Ok(Plan {

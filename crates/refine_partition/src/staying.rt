@@ -1,12 +1,11 @@
 //! The pieces that keep the numbers of their blocks.
 
-ghost use Rattle.std.specs.Prelude.{◌≡◌, ◌<◌, All, IfOk, OnOk, length};
+ghost use Rattle.std.specs.Prelude.{◌≡◌, ◌<◌, All, OnOk, length};
 ghost use Rattle.std.specs.List.Sorted.{IsStrictlyIncreasing};
 ghost use Rattle.refine_partition.specs.Loose.{AreFiner, AreListed, AreStaying, AreUsed, HasMember, IsNamedAs, IsStayingClass, IsStillListed};
 
 use crate::class_names::ClassNames;
 use base_kit::NoMemory;
-use std::alloc::Global;
 
 /// The class of a block's members that keeps its number: that of the members that no edge reaches, where
 /// there are any. Routers that have left the block are dropped from its list where they are met.
@@ -38,28 +37,28 @@ pub fn name_class(names: &mut ClassNames<u32>, class: usize, number: u32) -> Res
     names.put(class, number)
 }
 
-/// The classes that keep the numbers of these blocks.
-pub fn staying_classes(
-    alloc: Global,
+/// Names the classes that keep the numbers of these blocks, and no others.
+pub fn name_staying(
+    names: &mut ClassNames<u32>,
     lists: &mut Vec<Vec<u32>>,
     numbers: &[u32],
     classes: &[usize],
     blocks: &[u32],
-) -> Result<ClassNames<u32>, NoMemory>
+) -> Result<(), NoMemory>
     requires listed { AreListed numbers.now lists.old.items }
     requires used { AreUsed (length lists.old.items) numbers.now }
     requires one_class_each { length classes.now ≡ length numbers.now }
     requires finer { AreFiner numbers.now classes.now }
     requires known { All (λ block. block < length lists.old.items) blocks.now }
     requires in_order { IsStrictlyIncreasing blocks.now }
-    ensures total { IfOk result (λ names. length lists.new.items ≡ length lists.old.items) }
-    ensures listed { IfOk result (λ names. AreListed numbers.now lists.new.items) }
-    ensures staying { IfOk result (AreStaying numbers.now classes.now blocks.now) }
+    ensures total { OnOk result (length lists.new.items ≡ length lists.old.items) }
+    ensures listed { OnOk result (AreListed numbers.now lists.new.items) }
+    ensures staying { OnOk result (AreStaying numbers.now classes.now blocks.now names.new) }
 {
-    let mut names = ClassNames::new(alloc);
+    names.clear();
     for block in blocks {
         let class = staying_class(&mut lists[*block as usize], numbers, classes, *block);
-        name_class(&mut names, class, *block)?;
+        name_class(names, class, *block)?;
     }
-    Ok(names)
+    Ok(())
 }

@@ -1,6 +1,6 @@
 //! The blocks that edges reach, and their members.
 
-ghost use Rattle.std.specs.Prelude.{◌≡◌, ◌<◌, ◌-◌, ◌↔◌, All, Contains, IfOk, IsTrue, Some, length, slice_get};
+ghost use Rattle.std.specs.Prelude.{◌≡◌, ◌<◌, ◌-◌, ◌↔◌, All, Contains, IfOk, IsTrue, OnOk, Some, length, slice_get};
 ghost use Rattle.std.specs.List.Sorted.{IsStrictlyIncreasing};
 ghost use Rattle.refine_partition.specs.Members.{AreBlocks};
 ghost use Rattle.refine_partition.specs.Touched.{AreTouched, IsQueue};
@@ -31,25 +31,25 @@ fn are_in_order(blocks: &[u32]) -> bool
     true
 }
 
-/// The numbers of the blocks of the routers, ascending.
-pub fn touched_blocks(alloc: Global, numbers: &[u32], routers: &[u32]) -> Result<Vec<u32>, NoMemory>
+/// Fills the list with the numbers of the blocks of the routers, ascending.
+pub fn list_touched(blocks: &mut Vec<u32>, numbers: &[u32], routers: &[u32]) -> Result<(), NoMemory>
     requires in_range { All (λ u. u < length numbers.now) routers.now }
-    ensures in_order { IfOk result (λ v. IsStrictlyIncreasing v.items) }
-    ensures touched { IfOk result (λ v. AreTouched numbers.now routers.now v.items) }
+    ensures in_order { OnOk result (IsStrictlyIncreasing blocks.new.items) }
+    ensures touched { OnOk result (AreTouched numbers.now routers.now blocks.new.items) }
 {
-    let mut blocks = Vec::new(alloc);
+    blocks.clear();
     for router in routers {
         let block = numbers[*router as usize];
-        if !is_last(&blocks, block) {
+        if !is_last(blocks, block) {
             blocks.push(block)?;
         }
     }
-    if are_in_order(&blocks) {
-        return Ok(blocks);
+    if are_in_order(blocks) {
+        return Ok(());
     }
     blocks.sort()?;
     blocks.dedup();
-    Ok(blocks)
+    Ok(())
 }
 
 /// The members of these blocks, in the order of the blocks and within each block ascending.

@@ -7,15 +7,16 @@ ghost use Rattle.refine_partition.specs.Loose.{AreListed, AreParted, AreSettled,
 ghost use Rattle.refine_partition.specs.Members.{AreBlockMembers};
 ghost use Rattle.refine_partition.specs.Splits.{IsStart};
 
-use crate::arrivals::arrivals_at;
+use crate::arrivals::list_arrivals;
 use crate::blocks::blocks_of;
+use crate::class_names::ClassNames;
 use crate::classes::{divide_classes, widened};
 use crate::division::has_number;
 use crate::graph_view::GraphView;
 use crate::imports::Import;
 use crate::moves::{move_reached, settle};
 use crate::numbering::numbers_of;
-use crate::touched::touched_blocks;
+use crate::touched::list_touched;
 use base_kit::{NoMemory, Steps};
 use std::alloc::Global;
 use std::sync::ledger::Ledger;
@@ -27,6 +28,28 @@ pub struct LooseBlocks {
     pub numbers: Vec<u32>,
     pub lists: Vec<Vec<u32>>,
     pub classes: Vec<usize>,
+}
+
+/// Lists that each turn fills anew, in the memory of the turn before.
+#[derive(Drop)]
+pub struct Workspace {
+    arrivals: Vec<Import>,
+    reached: Vec<u32>,
+    touched: Vec<u32>,
+    names: ClassNames<usize>,
+    pieces: ClassNames<u32>,
+}
+
+impl Workspace {
+    pub fn new(alloc: Global) -> Self {
+        Workspace {
+            arrivals: Vec::new(alloc),
+            reached: Vec::new(alloc),
+            touched: Vec::new(alloc),
+            names: ClassNames::new(alloc),
+            pieces: ClassNames::new(alloc),
+        }
+    }
 }
 
 /// One block per color.
@@ -66,6 +89,7 @@ pub fn turn<L: Ledger>(
     imports: &[Vec<Import>],
     blocks: &mut LooseBlocks,
     taken: u32,
+    work: &mut Workspace,
     turns: &mut Steps<L>,
 ) -> Result<Vec<u32>, NoMemory>
     requires one_number_each { length blocks.old.numbers.items ≡ graph.now.count }
@@ -84,17 +108,32 @@ pub fn turn<L: Ledger>(
     let count = blocks.lists.len() as u32;
     keep_members(&mut blocks.lists, &blocks.numbers, taken);
     let members = &blocks.lists[taken as usize];
-    let arrivals = arrivals_at(alloc, graph, imports, &blocks.numbers, members, taken)?;
-    let (_next, reached) = divide_classes(alloc, &mut blocks.classes, &arrivals, count)?;
-    let touched = touched_blocks(alloc, &blocks.numbers, &reached)?;
+    list_arrivals(
+        alloc,
+        &mut work.arrivals,
+        graph,
+        imports,
+        &blocks.numbers,
+        members,
+        taken,
+    )?;
+    let _next = divide_classes(
+        &mut blocks.classes,
+        &mut work.reached,
+        &mut work.names,
+        &work.arrivals,
+        count,
+    )?;
+    list_touched(&mut work.touched, &blocks.numbers, &work.reached)?;
     let origins = move_reached(
         alloc,
+        &mut work.pieces,
         &mut blocks.numbers,
         &mut blocks.lists,
         &blocks.classes,
-        &touched,
-        &reached,
+        &work.touched,
+        &work.reached,
     )?;
-    settle(&mut blocks.classes, &blocks.numbers, &reached);
+    settle(&mut blocks.classes, &blocks.numbers, &work.reached);
     Ok(origins)
 }

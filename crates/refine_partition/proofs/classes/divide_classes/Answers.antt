@@ -8,7 +8,7 @@ loop-start-init c = record {
   within = omega arith;
   apart = λ i j d hi. absurd (omega arith);
   classes = classes_start _ c.args.arrivals.now _ c.requires.below;
-  reached = rw c.new-reached.ensures.items (reached_none _ _ c.requires.below);
+  reached = rw c.clear.ensures.items (reached_none _ _ c.requires.below);
 }
 
 pub loop-start-preserved : goal.loop-start-preserved

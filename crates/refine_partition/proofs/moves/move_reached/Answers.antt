@@ -5,12 +5,12 @@ use Rattle.std.proofs.lemmas.List.Elements.{All-take}
 use Rattle.refine_partition.proofs.MoveLemmas.{moving_none, moving_used, used_few, moving_next, moved_all, piece_listed, piece_named, piece_size, piece_known}
 use Rattle.refine_partition.proofs.moves.move_reached.Goals as goal
 
-pub staying_classes-requires-clause-used : goal.staying_classes-requires-clause-used
-staying_classes-requires-clause-used c = rw c.deref.ensures.value c.requires.used
+pub name_staying-requires-clause-used : goal.name_staying-requires-clause-used
+name_staying-requires-clause-used c = rw c.deref.ensures.value c.requires.used
 
 pub loop-router-init : goal.loop-router-init
 loop-router-init c =
-    let kept = c.in_ok-names.ensures in
+    let kept = c.in_ok-name_staying.ensures in
     let total = kept.total in
     let none = ap length c.new-origins.ensures.items in
     record {
@@ -24,7 +24,7 @@ loop-router-init c =
 pub piece_after-requires-clause-few : goal.piece_after-requires-clause-few
 piece_after-requires-clause-few c =
     let before = c.loop-router.invariant in
-    let kept = c.in_ok-names.ensures.total in
+    let kept = c.in_ok-name_staying.ensures.total in
     let fits = c.requires.fits in
     let used = moving_used _ _ _ _ _ _ _ _ before.moving (rw kept c.requires.used)
     (All-take (λ u. Contains c.args.touched.now (slice_index c.args.numbers.now.items u)) c.loop-router.router-index _ c.requires.touched.all) in
@@ -68,11 +68,11 @@ returns-clause-listed c = c.loop-router.invariant.listed
 pub returns-clause-total : goal.returns-clause-total
 returns-clause-total c =
     let total = c.loop-router.invariant.total in
-    let kept = c.in_ok-names.ensures.total in
+    let kept = c.in_ok-name_staying.ensures.total in
     omega arith
 
 pub returns-clause-moved : goal.returns-clause-moved
 returns-clause-moved c =
     let whole = take_all c.loop-router.router-index c.args.reached.now c.loop-router-test.false in
-    let moving = rw (whole, c.in_ok-names.ensures.total) at c.loop-router.invariant.moving in
+    let moving = rw (whole, c.in_ok-name_staying.ensures.total) at c.loop-router.invariant.moving in
     moved_all _ _ _ _ _ _ _ _ moving c.requires.classes c.requires.listed.below c.requires.used c.requires.touched.all

@@ -3,8 +3,8 @@ use Rattle.std.specs.declared.alloc.Global.{Global}
 use Rattle.refine_partition.proofs.TurnLemmas.{parted, divided}
 use Rattle.refine_partition.proofs.turn.turn.Goals as goal
 
-pub arrivals_at-requires-clause-members : goal.arrivals_at-requires-clause-members
-arrivals_at-requires-clause-members g c =
+pub list_arrivals-requires-clause-members : goal.list_arrivals-requires-clause-members
+list_arrivals-requires-clause-members g c =
     let numbers : c.deref-2.result.now ≡ c.deref.result.now = c.deref-2.ensures.value ∙ sym c.deref.ensures.value in
     let list : c.deref-3.result.now ≡ (get_or c.keep_members.new.lists.items c.args.taken c.index-members.result.now).items =
     c.deref-3.ensures.value ∙ ap (λ (v : Vec ℕ Global). v.items) c.index-members.ensures in
@@ -13,7 +13,7 @@ arrivals_at-requires-clause-members g c =
 pub returns-clause-split : goal.returns-clause-split
 returns-clause-split g c =
     let counted : c.len-count.result ≡ length c.args.blocks.now.lists.items = search rules in
-    let arrived = rw c.deref-2.ensures.value at c.in_ok-arrivals.ensures.arrivals in
+    let arrived = rw c.deref-2.ensures.value at c.in_ok-list_arrivals.ensures.arrivals in
     let are = rw (c.deref-4.ensures.value, c.requires.settled.classes_are, counted) at c.in_ok-_next.ensures.classes in
     let moved = rw (c.deref-7.ensures.value, c.deref-9.ensures.value, c.keep_members.ensures.total) at c.in_ok-origins.ensures.moved in
     let total = c.in_ok-origins.ensures.total in
@@ -24,7 +24,7 @@ returns-clause-split g c =
 pub returns-clause-parted : goal.returns-clause-parted
 returns-clause-parted g c =
     let counted : c.len-count.result ≡ length c.args.blocks.now.lists.items = search rules in
-    let arrived = rw c.deref-2.ensures.value at c.in_ok-arrivals.ensures.arrivals in
+    let arrived = rw c.deref-2.ensures.value at c.in_ok-list_arrivals.ensures.arrivals in
     let are = rw (c.deref-4.ensures.value, c.requires.settled.classes_are, counted) at c.in_ok-_next.ensures.classes in
     let moved = rw (c.deref-7.ensures.value, c.deref-9.ensures.value, c.keep_members.ensures.total) at c.in_ok-origins.ensures.moved in
     let total = c.in_ok-origins.ensures.total in

@@ -1,6 +1,6 @@
 use Rattle.std.proofs.Common.{◌≡◌, length, take}
 use Rattle.refine_partition.specs.Loose.{AreListed, AreStaying}
-use Rattle.refine_partition.proofs.staying.staying_classes.Given as goal
+use Rattle.refine_partition.proofs.staying.name_staying.Given as goal
 
 abbrev pub invariant-loop-block : goal.invariant-loop-block
 invariant-loop-block l = record {

@@ -5,8 +5,8 @@ use Rattle.std.proofs.lemmas.List.Kept.{Contains-dedup_nat}
 use Rattle.std.proofs.lemmas.List.Sorted.{All-permutation, Contains-permutation}
 use Rattle.std.proofs.lemmas.Map.Keys.{IsStrictlyIncreasing-dedup}
 use Rattle.refine_partition.proofs.QueueLemmas.{touched_again, touched_more, touched_kept}
-use Rattle.refine_partition.proofs.touched.touched_blocks.Goals as goal
-use Rattle.refine_partition.proofs.touched.touched_blocks.Goals.{then-not-is_last+in_ok-push, else-not-is_last}
+use Rattle.refine_partition.proofs.touched.list_touched.Goals as goal
+use Rattle.refine_partition.proofs.touched.list_touched.Goals.{then-not-is_last+in_ok-push, else-not-is_last}
 
 pub loop-router-preserved : goal.loop-router-preserved
 loop-router-preserved c =

@@ -3,7 +3,7 @@ use Rattle.std.specs.Prelude.{slice_index}
 use Rattle.std.proofs.lemmas.List.{take_more}
 use Rattle.std.proofs.Math.ListN.{length-set}
 use Rattle.refine_partition.proofs.StayingLemmas.{routers_of, has_member, listed_set, not_earlier, staying_more}
-use Rattle.refine_partition.proofs.staying.staying_classes.Goals as goal
+use Rattle.refine_partition.proofs.staying.name_staying.Goals as goal
 
 pub staying_class-class-requires-clause-routers : goal.staying_class-class-requires-clause-routers
 staying_class-class-requires-clause-routers c =
