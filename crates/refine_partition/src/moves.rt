@@ -12,6 +12,23 @@ use crate::staying::{name_class, name_staying};
 use base_kit::NoMemory;
 use std::alloc::Global;
 
+/// The numbers of classes, and for each new piece the block that it comes from.
+#[derive(Drop)]
+pub struct Pieces {
+    pub names: ClassNames<u32>,
+    pub origins: Vec<u32>,
+}
+
+impl Pieces {
+    /// No class has a number.
+    pub fn new(alloc: Global) -> Self {
+        Pieces {
+            names: ClassNames::new(alloc),
+            origins: Vec::new(alloc),
+        }
+    }
+}
+
 /// The number of a class: that of a new, empty block where it has none yet.
 fn piece_of(
     alloc: Global,
@@ -75,38 +92,45 @@ fn move_router(
     Ok(())
 }
 
-/// Moves the reached routers into the pieces of their classes, and gives for each new piece the block that
-/// it comes from. The names are those of the pieces, whatever they were.
+/// Moves the reached routers into the pieces of their classes, whatever the pieces were before.
 pub fn move_reached(
     alloc: Global,
-    names: &mut ClassNames<u32>,
+    pieces: &mut Pieces,
     numbers: &mut Vec<u32>,
     lists: &mut Vec<Vec<u32>>,
     classes: &[usize],
     touched: &[u32],
     reached: &[u32],
-) -> Result<Vec<u32>, NoMemory>
+) -> Result<(), NoMemory>
     requires fits { length numbers.old.items < 2 ^ 32 }
     requires listed { AreListed numbers.old.items lists.old.items }
     requires used { AreUsed (length lists.old.items) numbers.old.items }
     requires classes { AreNewClasses numbers.old.items classes.now (length lists.old.items) reached.now }
     requires touched { AreTouched numbers.old.items reached.now touched.now }
     requires in_order { IsStrictlyIncreasing touched.now }
-    ensures listed { IfOk result (λ origins. AreListed numbers.new.items lists.new.items) }
-    ensures total { IfOk result (λ origins. length lists.new.items ≡ length lists.old.items + length origins.items) }
-    ensures moved { IfOk result (λ origins. AreMoved numbers.old.items classes.now reached.now (length lists.old.items) numbers.new.items origins.items) }
+    ensures listed { OnOk result (AreListed numbers.new.items lists.new.items) }
+    ensures total { OnOk result (length lists.new.items ≡ length lists.old.items + length pieces.new.origins.items) }
+    ensures moved { OnOk result (AreMoved numbers.old.items classes.now reached.now (length lists.old.items) numbers.new.items pieces.new.origins.items) }
 {
-    name_staying(names, lists, numbers, classes, touched)?;
-    let mut origins = Vec::new(alloc);
+    name_staying(&mut pieces.names, lists, numbers, classes, touched)?;
+    pieces.origins.clear();
     let mut last = None;
     for router in reached {
         let class = classes[*router as usize];
         let origin = numbers[*router as usize];
-        let number = piece_after(alloc, names, last, lists, &mut origins, class, origin)?;
+        let number = piece_after(
+            alloc,
+            &mut pieces.names,
+            last,
+            lists,
+            &mut pieces.origins,
+            class,
+            origin,
+        )?;
         move_router(numbers, lists, *router, number)?;
         last = Some((class, number));
     }
-    Ok(origins)
+    Ok(())
 }
 
 /// Lets the class of each reached router be its block again.

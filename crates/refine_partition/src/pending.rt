@@ -104,8 +104,9 @@ pub fn refined<L: Ledger>(
     let mut work = Workspace::new(alloc);
     while let Some(block) = queue.pop_back() {
         waits[block as usize] = false;
-        let origins = turn(alloc, graph, imports, &mut blocks, block, &mut work, turns)?;
-        add_pieces(&mut queue, &mut waits, &blocks.lists, &origins)?;
+        turn(alloc, graph, imports, &mut blocks, block, &mut work, turns)?;
+        let origins = &work.pieces.origins;
+        add_pieces(&mut queue, &mut waits, &blocks.lists, origins)?;
     }
     Ok(blocks.numbers)
 }

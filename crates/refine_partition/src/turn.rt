@@ -1,6 +1,6 @@
 //! A turn of the refinement, which goes over the routers listed in one block and their outgoing edges.
 
-ghost use Rattle.std.specs.Prelude.{◌≡◌, ℕ, ◌<◌, ◌+◌, ◌≤◌, IfOk, Vec, length, slice_index_or};
+ghost use Rattle.std.specs.Prelude.{◌≡◌, ℕ, ◌<◌, ◌+◌, ◌≤◌, IfOk, OnOk, Vec, length, slice_index_or};
 ghost use Rattle.std.specs.declared.alloc.Global.{Global as TheGlobal};
 ghost use Rattle.refine_partition.specs.Index.{IsImportIndex};
 ghost use Rattle.refine_partition.specs.Loose.{AreListed, AreParted, AreSettled, IsDividedAsSplit};
@@ -14,7 +14,7 @@ use crate::classes::{divide_classes, widened};
 use crate::division::has_number;
 use crate::graph_view::GraphView;
 use crate::imports::Import;
-use crate::moves::{move_reached, settle};
+use crate::moves::{Pieces, move_reached, settle};
 use crate::numbering::numbers_of;
 use crate::touched::list_touched;
 use base_kit::{NoMemory, Steps};
@@ -37,7 +37,7 @@ pub struct Workspace {
     reached: Vec<u32>,
     touched: Vec<u32>,
     names: ClassNames<usize>,
-    pieces: ClassNames<u32>,
+    pub pieces: Pieces,
 }
 
 impl Workspace {
@@ -47,7 +47,7 @@ impl Workspace {
             reached: Vec::new(alloc),
             touched: Vec::new(alloc),
             names: ClassNames::new(alloc),
-            pieces: ClassNames::new(alloc),
+            pieces: Pieces::new(alloc),
         }
     }
 }
@@ -80,7 +80,7 @@ fn keep_members(lists: &mut Vec<Vec<u32>>, numbers: &[u32], block: u32)
 }
 
 /// Divides all other blocks by the acts of their members' edges into the taken one, which counts as one
-/// step, and gives for each new piece the block that it comes from. Whatever numbers the blocks had,
+/// step, and lists for each new piece the block that it comes from. Whatever numbers the blocks had,
 /// this is the split of a `Splitting`, number for number. The numbers here are other ones: members that
 /// no edge reaches keep theirs, even if the least member leaves them, so that nobody looks at them.
 pub fn turn<L: Ledger>(
@@ -91,7 +91,7 @@ pub fn turn<L: Ledger>(
     taken: u32,
     work: &mut Workspace,
     turns: &mut Steps<L>,
-) -> Result<Vec<u32>, NoMemory>
+) -> Result<(), NoMemory>
     requires one_number_each { length blocks.old.numbers.items ≡ graph.now.count }
     requires settled { AreSettled blocks.old.numbers.items blocks.old.classes.items blocks.old.lists.items }
     requires few { length blocks.old.lists.items ≤ graph.now.count }
@@ -99,9 +99,9 @@ pub fn turn<L: Ledger>(
     requires index { IsImportIndex graph.now.edges imports.now }
     requires known { taken < length blocks.old.lists.items }
     ensures tick { turns.new ≡ turns.old + 1 }
-    ensures settled { IfOk result (λ origins. AreSettled blocks.new.numbers.items blocks.new.classes.items blocks.new.lists.items) }
-    ensures split { IfOk result (λ origins. IsDividedAsSplit graph.now taken blocks.old.numbers.items blocks.new.numbers.items (length blocks.old.lists.items) (length blocks.new.lists.items)) }
-    ensures parted { IfOk result (λ origins. AreParted graph.now taken blocks.old.numbers.items blocks.new.numbers.items (length blocks.old.lists.items) (length blocks.new.lists.items) origins.items) }
+    ensures settled { OnOk result (AreSettled blocks.new.numbers.items blocks.new.classes.items blocks.new.lists.items) }
+    ensures split { OnOk result (IsDividedAsSplit graph.now taken blocks.old.numbers.items blocks.new.numbers.items (length blocks.old.lists.items) (length blocks.new.lists.items)) }
+    ensures parted { OnOk result (AreParted graph.now taken blocks.old.numbers.items blocks.new.numbers.items (length blocks.old.lists.items) (length blocks.new.lists.items) work.new.pieces.origins.items) }
 {
     turns.tick();
     let _known = graph.count();
@@ -125,7 +125,7 @@ pub fn turn<L: Ledger>(
         count,
     )?;
     list_touched(&mut work.touched, &blocks.numbers, &work.reached)?;
-    let origins = move_reached(
+    move_reached(
         alloc,
         &mut work.pieces,
         &mut blocks.numbers,
@@ -135,5 +135,5 @@ pub fn turn<L: Ledger>(
         &work.reached,
     )?;
     settle(&mut blocks.classes, &blocks.numbers, &work.reached);
-    Ok(origins)
+    Ok(())
 }

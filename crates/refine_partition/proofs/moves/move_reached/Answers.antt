@@ -12,11 +12,11 @@ pub loop-router-init : goal.loop-router-init
 loop-router-init c =
     let kept = c.in_ok-name_staying.ensures in
     let total = kept.total in
-    let none = ap length c.new-origins.ensures.items in
+    let none = ap length c.clear.ensures.items in
     record {
       total = omega arith;
       listed = rw c.deref.ensures.value at kept.listed;
-      moving = rw c.new-origins.ensures.items (moving_none _ _ _ c.args.reached.now _ _ (rw c.deref.ensures.value at kept.staying)
+      moving = rw c.clear.ensures.items (moving_none _ _ _ c.args.reached.now _ _ (rw c.deref.ensures.value at kept.staying)
           (rw total c.requires.listed.below));
       last = tt;
     }

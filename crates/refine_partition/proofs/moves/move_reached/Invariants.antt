@@ -6,9 +6,9 @@ use Rattle.refine_partition.proofs.moves.move_reached.Given as goal
 
 abbrev pub invariant-loop-router : goal.invariant-loop-router
 invariant-loop-router l = record {
-  total : length l.lists.items ≡ length l.initial.lists.items + length l.origins.items;
+  total : length l.lists.items ≡ length l.initial.lists.items + length l.pieces.origins.items;
   listed : AreListed l.numbers.items l.lists.items;
-  moving : Moving l.initial.numbers.items l.classes l.touched (take l.router-index l.reached) (length l.initial.lists.items) l.numbers.items l.origins.items
-      (λ class. name_of l.names class);
-  last : IfSome l.last (λ x. name_of l.names x.0 ≡ Some x.1);
+  moving : Moving l.initial.numbers.items l.classes l.touched (take l.router-index l.reached) (length l.initial.lists.items) l.numbers.items l.pieces.origins.items
+      (λ class. name_of l.pieces.names class);
+  last : IfSome l.last (λ x. name_of l.pieces.names x.0 ≡ Some x.1);
 }

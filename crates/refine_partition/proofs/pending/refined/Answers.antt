@@ -37,7 +37,7 @@ loop-block-preserved g c =
     let before = c.loop-block.invariant in
     let known = left_known _ _ _ _ popped before.refining.known in
     let size : length c.loop-block.waits.items ≡ length c.loop-block.blocks.lists.items = before.size in
-    let divided = c.in_ok-origins.ensures.parted in
+    let divided = c.in_ok-turn.ensures.parted in
     let added = c.in_ok-add_pieces.ensures in
     let marks : length (slice_set c.loop-block.waits.items c.in-Some.block false) ≡ length c.loop-block.blocks.lists.items = length-set _ _ _ ∙ size in
     let waiting = rw (marks, c.deref-in-Some.ensures.value) at added.waiting in
@@ -45,13 +45,13 @@ loop-block-preserved g c =
     let longer = ap length popped ∙ length_push _ _ in
     let few = waiting.few in
     let bound = before.bound in
-    let tick = c.in_ok-origins.ensures.tick in
+    let tick = c.in_ok-turn.ensures.tick in
     let grows = divided.size in
     let most = divided.few in
     let small = before.refining.small in
     let (splits, turns, once) = before.splits in
     record {
-      settled = c.in_ok-origins.ensures.settled;
+      settled = c.in_ok-turn.ensures.settled;
       refining = refining;
       size = added.size ∙ ap length c.deref.ensures.value;
       marked = added.marked;
@@ -59,7 +59,7 @@ loop-block-preserved g c =
         splits + 1,
         omega arith,
         once_more _ _ _ _ _ _ _ _ _ _ _ once popped before.marked.once before.refining.known before.refining.total
-            before.settled.used c.in_ok-origins.ensures.settled.used c.in_ok-origins.ensures.split divided waiting,
+            before.settled.used c.in_ok-turn.ensures.settled.used c.in_ok-turn.ensures.split divided waiting,
       );
       bound = omega arith;
     }

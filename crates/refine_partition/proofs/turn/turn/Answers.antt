@@ -15,10 +15,10 @@ returns-clause-split g c =
     let counted : c.len-count.result ≡ length c.args.blocks.now.lists.items = search rules in
     let arrived = rw c.deref-2.ensures.value at c.in_ok-list_arrivals.ensures.arrivals in
     let are = rw (c.deref-4.ensures.value, c.requires.settled.classes_are, counted) at c.in_ok-_next.ensures.classes in
-    let moved = rw (c.deref-7.ensures.value, c.deref-9.ensures.value, c.keep_members.ensures.total) at c.in_ok-origins.ensures.moved in
-    let total = c.in_ok-origins.ensures.total in
+    let moved = rw (c.deref-7.ensures.value, c.deref-9.ensures.value, c.keep_members.ensures.total) at c.in_ok-move_reached.ensures.moved in
+    let total = c.in_ok-move_reached.ensures.total in
     let kept = c.keep_members.ensures.total in
-    let size : length c.move_reached.new.lists.items ≡ length c.args.blocks.now.lists.items + length c.in_ok-origins.origins.items = omega arith in
+    let size : length c.move_reached.new.lists.items ≡ length c.args.blocks.now.lists.items + length c.move_reached.new.pieces.origins.items = omega arith in
     divided _ _ _ _ _ _ _ _ _ _ _ c.requires.one_number_each c.requires.settled.listed.below arrived are moved size
 
 pub returns-clause-parted : goal.returns-clause-parted
@@ -26,8 +26,8 @@ returns-clause-parted g c =
     let counted : c.len-count.result ≡ length c.args.blocks.now.lists.items = search rules in
     let arrived = rw c.deref-2.ensures.value at c.in_ok-list_arrivals.ensures.arrivals in
     let are = rw (c.deref-4.ensures.value, c.requires.settled.classes_are, counted) at c.in_ok-_next.ensures.classes in
-    let moved = rw (c.deref-7.ensures.value, c.deref-9.ensures.value, c.keep_members.ensures.total) at c.in_ok-origins.ensures.moved in
-    let total = c.in_ok-origins.ensures.total in
+    let moved = rw (c.deref-7.ensures.value, c.deref-9.ensures.value, c.keep_members.ensures.total) at c.in_ok-move_reached.ensures.moved in
+    let total = c.in_ok-move_reached.ensures.total in
     let kept = c.keep_members.ensures.total in
-    let size : length c.move_reached.new.lists.items ≡ length c.args.blocks.now.lists.items + length c.in_ok-origins.origins.items = omega arith in
+    let size : length c.move_reached.new.lists.items ≡ length c.args.blocks.now.lists.items + length c.move_reached.new.pieces.origins.items = omega arith in
     parted _ _ _ _ _ _ _ _ _ _ _ c.requires.one_number_each c.requires.settled.listed.below arrived are moved size
