@@ -1,5 +1,5 @@
 -- The AS numbers of groups.
-use Rattle.std.proofs.Common.{◌≡◌, ℕ, suc, ◌+◌, Bool, true, false, cond, not, ◌||◌, ◌&&◌, List, [], ◌∷◌, map, filter, length, nat_eq, refl, ◌∙◌, ap, arith}
+use Rattle.std.proofs.Common.{◌≡◌, ℕ, suc, ◌+◌, ◌<◌, Bool, true, false, cond, not, ◌||◌, ◌&&◌, List, [], ◌∷◌, map, filter, length, nat_eq, refl, ◌∙◌, ap, arith}
 use Rattle.std.specs.Prelude.{slice_index}
 use Rattle.std.specs.List.{enumerate_from, list_any}
 use Rattle.std.proofs.lemmas.Bool.Decides.{nat_tests}
@@ -8,11 +8,13 @@ use Rattle.base_kit.specs.Partition.{members_of}
 use Rattle.abstract_net.specs.declared.qlink.QLink.{QLink}
 use Rattle.srp_core.specs.Quotient.{first_number}
 use Rattle.srp_quotient.specs.Groups.{touches}
-use Rattle.config_emit.specs.ActLinks.{LinksByGroup, group_links, act_link}
+use Rattle.config_emit.specs.ActLinks.{act_link}
 use Rattle.config_emit.specs.BgpSteps.{first_among}
+use Rattle.config_emit.specs.GroupLinks.{group_links}
 use Rattle.config_emit.specs.Interfaces.{is_at, links_at}
 use Rattle.config_emit.specs.Plan.{Plan}
 use Rattle.config_emit.specs.Sources.{HasLinks}
+use Rattle.config_emit.specs.declared.links_by_group.LinksByGroup.{LinksByGroup}
 use Rattle.config_emit.proofs.Members.{members_cons}
 use Rattle.config_emit.proofs.OspfRouters.{links_are}
 
@@ -30,10 +32,11 @@ none_at g n (l ∷ ls) = step (none_at g (n + 1) ls) (touches g l) where
   step later true = some_more (length (filter (is_at g) (enumerate_from (n + 1) ls)))
   step later false = later
 
-pub some_link : (e : Plan) (g : ℕ) (index : LinksByGroup) → HasLinks e index → not (nat_eq (length (group_links index g)) 0) ≡ list_any (touches g) e.links
+pub some_link : (e : Plan) (g : ℕ) (index : LinksByGroup) → g < e.count → HasLinks e index →
+    not (nat_eq (length (group_links index g)) 0) ≡ list_any (touches g) e.links
 unfolding links_at
-some_link e g index has =
-    ap (λ n. not (nat_eq n 0)) (ap length (links_are e g index has) ∙ length-map (links_at e g) (act_link e.problem.protocol e.problem.edges e.links))
+some_link e g index inside has =
+    ap (λ n. not (nat_eq n 0)) (ap length (links_are e g index inside has) ∙ length-map (links_at e g) (act_link e.problem.protocol e.problem.edges e.links))
     ∙ none_at g 0 e.links
 
 -- ---- the first number

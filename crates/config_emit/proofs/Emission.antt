@@ -1,6 +1,6 @@
 -- What is written of a plan is what `emit` answers.
 use Rattle.std.proofs.Common.{◌≡◌, ℕ, ◌≤◌, List, None, length, sym, subst, arith}
-use Rattle.std.specs.Prelude.{Contains}
+use Rattle.std.specs.Prelude.{All, Contains}
 use Rattle.base_kit.specs.Prefixes.{Prefix}
 use Rattle.base_kit.specs.Partition.{IsNumbered}
 use Rattle.cfg_ast.specs.declared.classes.DestClass.{DestClass}
@@ -9,6 +9,7 @@ use Rattle.cfg_ast.specs.declared.network.Notes.{Notes}
 use Rattle.cfg_ast.specs.meaning.Classes.{classes_of}
 use Rattle.cfg_ast.specs.printing.WellFormed.{IsWellFormed}
 use Rattle.cfg_check.specs.Faultless.{IsFaultless}
+use Rattle.abstract_net.specs.Carried.{IsBelow}
 use Rattle.abstract_net.specs.Links.{NoMoreLinks, quotient_links}
 use Rattle.abstract_net.specs.declared.qlink.QLink.{QLink}
 use Rattle.net_topology.specs.Laws.{FewLinks}
@@ -21,6 +22,7 @@ use Rattle.config_emit.specs.Pool.{pool_line}
 use Rattle.config_emit.specs.Sources.{IsSound}
 use Rattle.config_emit.specs.declared.emitted.Emitted.{Emitted}
 use Rattle.config_emit.proofs.FewLinks.{has_prefix, no_more_links}
+use Rattle.config_emit.proofs.JoinedGroups.{quotient_joins}
 use Rattle.config_emit.proofs.Members.{one_count}
 
 abbrev pub plan : DestClass → Problem → List ℕ → Network → ℕ → List QLink → Plan
@@ -28,11 +30,12 @@ plan class problem groups network count links = record { network = network; clas
 
 pub sound : (class : DestClass) (problem : Problem) (groups : List ℕ) (network lent : Network) (count : ℕ) (links : List QLink)
     → lent ≡ network → IsNumbered groups count → ((p : Prefix) → Contains class.prefixes p → IsProblemOf network p problem)
-    → length links ≤ 1048576 → IsSound (plan class problem groups lent count links)
-sound class problem groups network lent count links same numbered of few = record {
+    → length links ≤ 1048576 → links ≡ quotient_links problem.edges groups count → IsSound (plan class problem groups lent count links)
+sound class problem groups network lent count links same numbered of few are = record {
   numbered = numbered;
   problem = λ p has. subst (λ n. IsProblemOf n p problem) (sym same) (of p has);
   few = few;
+  ends = subst (All (IsBelow count)) (sym are) (quotient_joins problem.edges groups count);
 }
 
 -- the links of the groups of a class are few

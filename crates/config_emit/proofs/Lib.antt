@@ -5,6 +5,7 @@ pub mod ClassSpots
 pub mod Emission
 pub mod FewLinks
 pub mod FirstUses
+pub mod JoinedGroups
 pub mod KeyEq
 pub mod Known
 pub mod ListSteps

@@ -23,14 +23,16 @@ use Rattle.srp_core.specs.declared.route.Act.{Act}
 use Rattle.srp_core.specs.Problem.{initial, number}
 use Rattle.srp_core.specs.ProblemOf.{route_from, start_route}
 use Rattle.srp_quotient.specs.Groups.{first_member, touches, edge_into, quotient_problem}
-use Rattle.config_emit.specs.ActLinks.{ends_at, act_to, act_link, act_links, LinksByGroup, group_links}
+use Rattle.config_emit.specs.ActLinks.{ends_at, act_to, act_link, act_links}
 use Rattle.config_emit.specs.Emitted.{area_number, ospf_on, ospf_of, written_bgp, emitted_router}
+use Rattle.config_emit.specs.GroupLinks.{group_links}
 use Rattle.config_emit.specs.Interfaces.{class_interfaces_on, class_interfaces, is_at, links_at, side_number, link_address, link_interface, link_interfaces, cost_by}
 use Rattle.config_emit.specs.LinkSteps.{act_by, interface_of_link}
 use Rattle.config_emit.specs.Maps.{maps_over, maps_of, lists_of_map, written_map}
 use Rattle.config_emit.specs.Plan.{Plan, small, act_of_place, act_into}
 use Rattle.config_emit.specs.Sources.{IsSound, HasLinks}
 use Rattle.config_emit.specs.Spots.{OriginatesEach}
+use Rattle.config_emit.specs.declared.links_by_group.LinksByGroup.{LinksByGroup}
 use Rattle.config_emit.proofs.ClassSpots.{none_served}
 use Rattle.config_emit.proofs.ListSteps.{filter_ext, filter_mapped, numbered_agree, numbered_mapped, same_numbers}
 
@@ -87,9 +89,9 @@ links_at_act e g =
     let all = enumerate_from 0 e.links in
     filter_mapped (ends_at g) draw all ∙ ap (map draw) (filter_ext (λ x. ends_at g (draw x)) (is_at g) all (λ (t, l). refl))
 
-pub links_are : (e : Plan) (g : ℕ) (index : LinksByGroup) → HasLinks e index →
+pub links_are : (e : Plan) (g : ℕ) (index : LinksByGroup) → g < e.count → HasLinks e index →
     group_links index g ≡ map (act_link e.problem.protocol e.problem.edges e.links) (links_at e g)
-links_are e g index has = has.links.each g ∙ links_at_act e g
+links_are e g index inside has = has.links.each g inside ∙ links_at_act e g
 
 by_place : (e : Plan) (o : Option ℕ) → option_map (act_of_place e) o ≡ option_map (act_by e.problem.acts) (option_map (act_at e.problem.edges) o)
 by_place e None = refl
@@ -121,12 +123,12 @@ one_linked : (e : Plan) (g k : ℕ) (x : ℕ × QLink) → is_at g x ≡ true �
 unfolding linked
 one_linked e g k (t, l) at = ap (linked g k t l) (sym (act_same e g t l at))
 
-pub link_interfaces_are : (e : Plan) (g : ℕ) (index : LinksByGroup) → HasLinks e index →
+pub link_interfaces_are : (e : Plan) (g : ℕ) (index : LinksByGroup) → g < e.count → HasLinks e index →
     map (interface_of_link e.problem.acts g) (enumerate_from 1 (group_links index g)) ≡ link_interfaces e g
 unfolding link_interfaces links_at
-link_interfaces_are e g index has =
+link_interfaces_are e g index inside has =
     let draw = act_link e.problem.protocol e.problem.edges e.links in
-    ap (λ ls. map (interface_of_link e.problem.acts g) (enumerate_from 1 ls)) (links_are e g index has)
+    ap (λ ls. map (interface_of_link e.problem.acts g) (enumerate_from 1 ls)) (links_are e g index inside has)
     ∙ numbered_mapped (interface_of_link e.problem.acts g) draw 1 (links_at e g)
     ∙ numbered_agree (λ (k : ℕ × (ℕ × QLink)). interface_of_link e.problem.acts g (k.0, draw k.1)) (link_interface e g) (is_at g) 1 (enumerate_from 0 e.links)
     (one_linked e g)

@@ -1,9 +1,8 @@
 -- The links of the groups with the acts that stand at them, as they are gathered for `emit`.
-use Rattle.std.specs.Prelude.{◌≡◌, ℕ, Bool, ◌||◌, List, [], ◌∷◌, ◌++◌, Option, None, Vec, map, filter, filter_map, nat_eq, if◌then◌else◌}
+use Rattle.std.specs.Prelude.{◌≡◌, ℕ, Bool, ◌||◌, List, Option, None, map, filter, filter_map, nat_eq, if◌then◌else◌}
 use Rattle.std.specs.HashMap.{HashMap, get}
 use Rattle.std.specs.List.{enumerate_from}
-use Rattle.std.specs.Option.{option_map, option_map_or, unwrap_or}
-use Rattle.std.specs.declared.alloc.Global.{Global}
+use Rattle.std.specs.Option.{option_map, unwrap_or}
 use Rattle.std.specs.declared.hash.FoldHasher.{FoldHasher}
 use Rattle.std.specs.declared.hash.BuildHasherDefault.{BuildHasherDefault}
 use Rattle.base_kit.specs.Pairs.{same_pair}
@@ -88,7 +87,7 @@ act_link q es links (t, l) = drawn es t l (full_sides q links l)
 unfoldable pub act_links : Protocol → List Edge → List QLink → List ActLink
 act_links q es links = map (act_link q es links) (enumerate_from 0 links)
 
--- ---- the links of a group
+-- ---- the ends of a link
 
 abbrev pub ends_at : ℕ → ActLink → Bool
 ends_at g x = nat_eq x.low g || nat_eq x.high g
@@ -96,21 +95,3 @@ ends_at g x = nat_eq x.low g || nat_eq x.high g
 -- the act into an end of a link
 abbrev pub act_to : ℕ → ActLink → Option ℕ
 act_to g x = if nat_eq x.low g then x.to_low else x.to_high
-
-abbrev pub LinksByGroup : Type 0
-LinksByGroup = HashMap ℕ (Vec ActLink Global) (BuildHasherDefault FoldHasher)
-
-abbrev pub group_links : LinksByGroup → ℕ → List ActLink
-group_links index g = option_map_or (λ (v : Vec ActLink Global). v.items) (get nat_eq index g) []
-
--- a link was put last at a group
-pub record PutsAt (old new : LinksByGroup) (group : ℕ) (link : ActLink) : Type 0 where
-  pub each : (g : ℕ) → group_links new g ≡ (if nat_eq group g then group_links old g ++ link ∷ [] else group_links old g)
-
--- a link was put last at both its ends
-pub record PutsLink (old new : LinksByGroup) (link : ActLink) : Type 0 where
-  pub each : (g : ℕ) → group_links new g ≡ (if ends_at g link then group_links old g ++ link ∷ [] else group_links old g)
-
--- each group has the links that end at it, in order
-pub record AreByGroup (index : LinksByGroup) (links : List ActLink) : Type 0 where
-  pub each : (g : ℕ) → group_links index g ≡ filter (ends_at g) links

@@ -6,6 +6,7 @@ pub mod Pool
 pub mod Laws
 pub mod Answers
 pub mod ActLinks
+pub mod GroupLinks
 pub mod LinkSteps
 pub mod Sources
 pub mod Spots

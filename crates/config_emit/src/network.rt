@@ -77,7 +77,7 @@ fn network_of(alloc: Global, source: &Source, area: u32) -> Result<Network, NoMe
     ensures { IfOk result (λ network. network ≡ emitted (plan_of source.now)) }
 {
     let links = act_links(alloc, source.srp, source.links)?;
-    let index = by_group(alloc, &links)?;
+    let index = by_group(alloc, &links, source.count)?;
     let routers = routers_of(alloc, source, &index, area)?;
     Ok(Network { routers })
 }

@@ -17,23 +17,26 @@ use Rattle.config_emit.proofs.FewLinks.{numbers_below}
 use Rattle.config_emit.proofs.OspfRouters.{links_are, link_interfaces_are, name_is}
 use Rattle.config_emit.proofs.bgp_routers.bgp_router.Goals as goal
 
+pub links_of-links-requires : goal.links_of-links-requires
+links_of-links-requires c = c.requires.links.links.has c.args.group c.requires.inside
+
 pub maps_of_group-requires-clause-links : goal.maps_of_group-requires-clause-links
 maps_of_group-requires-clause-links c = record {
   are = c.links_of-links.ensures
-      ∙ links_are (plan_of c.args.source.now) c.args.group c.args.index.now c.requires.links;
+      ∙ links_are (plan_of c.args.source.now) c.args.group c.args.index.now c.requires.inside c.requires.links;
 }
 
 pub process-requires-clause-links : goal.process-requires-clause-links
 process-requires-clause-links c = record {
   are = c.links_of-links.ensures
-      ∙ links_are (plan_of c.args.source.now) c.args.group c.args.index.now c.requires.links;
+      ∙ links_are (plan_of c.args.source.now) c.args.group c.args.index.now c.requires.inside c.requires.links;
 }
 
 pub push_link_interfaces-requires : goal.push_link_interfaces-requires
 push_link_interfaces-requires c =
     let e = plan_of c.args.source.now in
     numbers_below e c.args.group c.links_of-links.result.now c.requires.source.few
-    (c.links_of-links.ensures ∙ links_are e c.args.group c.args.index.now c.requires.links)
+    (c.links_of-links.ensures ∙ links_are e c.args.group c.args.index.now c.requires.inside c.requires.links)
 
 pub returns : goal.returns
 returns c =
@@ -45,7 +48,7 @@ returns c =
     ∙ ap (λ xs. xs ++ map (interface_of_link c.acts.result.now g) (enumerate_from 1 c.links_of-links.result.now)) c.in_ok-interfaces.ensures
     ∙ ap (λ (acts : List Act). class_interfaces e g ++ map (interface_of_link acts g) (enumerate_from 1 c.links_of-links.result.now)) c.acts.ensures
     ∙ ap (λ (ls : List ActLink). class_interfaces e g ++ map (interface_of_link e.problem.acts g) (enumerate_from 1 ls)) c.links_of-links.ensures
-    ∙ ap (λ xs. class_interfaces e g ++ xs) (link_interfaces_are e g c.args.index.now c.requires.links) in
+    ∙ ap (λ xs. class_interfaces e g ++ xs) (link_interfaces_are e g c.args.index.now c.requires.inside c.requires.links) in
     let maps = plains_are c.in_ok-maps.maps.uses.items (maps_now c.args.policies.now.maps.items) (maps_of e g) c.in_ok-maps.ensures.uses in
     let numbered = c.number_at.ensures ∙ ap (λ (ns : List ℕ). slice_index ns g) (numbers_are e c.args.numbers.now c.requires.numbers) in
     let lists = c.in_ok-community_lists.ensures ∙ ap (λ (ms : List Plain). flat_map lists_of_map (enumerate_from 1 ms)) maps in

@@ -14,6 +14,7 @@ network_of-requires-clause-source c =
     sound class problem c.args.p.now net.network c.network-network.result.now count links c.network-network.ensures.same c.groups.ensures c.requires.problem
     (few_between c.no_more_links.ensures c.few_links.ensures class problem c.args.p.now net.network count links formed net.faultless c.requires.class
     c.requires.problem links_are)
+    links_are
 
 pub notes_of-requires : goal.notes_of-requires
 notes_of-requires c =
@@ -28,7 +29,8 @@ notes_of-requires c =
       source = sound class problem c.args.p.now net.network c.network-network.result.now count links c.network-network.ensures.same c.groups.ensures
           c.requires.problem
           (few_between c.no_more_links.ensures c.few_links.ensures class problem c.args.p.now net.network count links formed net.faultless c.requires.class
-          c.requires.problem links_are);
+          c.requires.problem links_are)
+          links_are;
     }
 
 pub returns : goal.returns

@@ -13,11 +13,14 @@ use Rattle.config_emit.proofs.FewLinks.{numbers_below}
 use Rattle.config_emit.proofs.OspfRouters.{links_are, link_interfaces_are, name_is, router_is}
 use Rattle.config_emit.proofs.routers.ospf_router.Goals as goal
 
+pub links_of-links-requires : goal.links_of-links-requires
+links_of-links-requires c = c.requires.links.links.has c.args.group c.requires.inside
+
 pub push_link_interfaces-requires : goal.push_link_interfaces-requires
 push_link_interfaces-requires c =
     let e = plan_of c.args.source.now in
     numbers_below e c.args.group c.links_of-links.result.now c.requires.source.few
-    (c.links_of-links.ensures ∙ links_are e c.args.group c.args.index.now c.requires.links)
+    (c.links_of-links.ensures ∙ links_are e c.args.group c.args.index.now c.requires.inside c.requires.links)
 
 pub returns : goal.returns
 returns c =
@@ -29,7 +32,7 @@ returns c =
     ∙ ap (λ xs. xs ++ map (interface_of_link c.acts.result.now g) (enumerate_from 1 c.links_of-links.result.now)) c.in_ok-interfaces.ensures
     ∙ ap (λ (acts : List Act). class_interfaces e g ++ map (interface_of_link acts g) (enumerate_from 1 c.links_of-links.result.now)) c.acts.ensures
     ∙ ap (λ (ls : List ActLink). class_interfaces e g ++ map (interface_of_link e.problem.acts g) (enumerate_from 1 ls)) c.links_of-links.ensures
-    ∙ ap (λ xs. class_interfaces e g ++ xs) (link_interfaces_are e g c.args.index.now c.requires.links) in
+    ∙ ap (λ xs. class_interfaces e g ++ xs) (link_interfaces_are e g c.args.index.now c.requires.inside c.requires.links) in
     let links = link_interfaces e g in
     let all = class_interfaces e g ++ links in
     let process = c.in_ok-ospf.ensures
