@@ -5,6 +5,7 @@ ghost use Rattle.std.specs.List.{enumerate_from};
 ghost use Rattle.cfg_ast.specs.printing.Bare.{bare_community_line};
 ghost use Rattle.config_emit.specs.Maps.{passes_all, is_whole, map_name, match_name, deletion_name, written_list, match_list, match_lists, deletion_lists, lists_of_entry, lists_of_map, name_of_list, written_prepend, written_entry, denying_entry, written_entries, written_map};
 
+use crate::number::numbered;
 use base_kit::{List, NoMemory, Text};
 use cfg_ast::{CommunityLine, CommunityList, MapEntry, NameLine, Named, Prepend, RouteMap};
 use route_maps::{Plain, PlainEntry, change_copy};
@@ -35,8 +36,7 @@ pub(crate) fn is_whole(plain: &Plain) -> bool
 pub(crate) fn map_name(alloc: Global, k: usize) -> Result<Text, NoMemory>
     ensures { IfOk result (λ name. name ≡ map_name k) }
 {
-    let name = format!(in alloc; "POLICY-{k}")?;
-    Ok(Text::from_string(name))
+    numbered(alloc, "POLICY-", k)
 }
 
 // The name of the i-th list that an entry of map `k` matches.
