@@ -14,8 +14,8 @@ use policy_dd::{EdgeFn, accepts_some, same};
 use std::alloc::Global;
 use std::collections::HashMap;
 
-/// The last 32 bits of a number.
-pub fn low_half(number: usize) -> u32
+// The last 32 bits of a number.
+fn low_half(number: usize) -> u32
     ensures { result ≡ low_half number }
 {
     (number % 4_294_967_296) as u32

@@ -18,7 +18,7 @@ pub struct ImportByPolicies {
 }
 
 /// An import by the numbers of the maps at both ends, for one prefix, and whether communities are sent.
-#[derive(Clone, Copy, Debug, PartialEq, Eq)]
+#[derive(Clone, Copy, Debug, PartialEq, Eq, PartialOrd, Ord)]
 pub struct ImportByMaps {
     pub out: usize,
     pub sends: bool,

@@ -4,18 +4,16 @@ ghost use Rattle.std.specs.Prelude.{◌≡◌, ◌<◌, ◌^◌, [], ◌∷◌, 
 ghost use Rattle.dd_core.specs.Sets.{Grows};
 ghost use Rattle.srp_build.specs.MetImports.{AreRight, IsActOfImport, IsMaybeNew, AreMapsWithin};
 
-use crate::acts::{Acts, low_half};
+use crate::acts::Acts;
 use crate::hops::Hop;
 use crate::imports::ImportByMaps;
 use base_kit::NoMemory;
-use buckets::{Index, items_at, push_at};
 use dd_core::Store;
-use number_hashing::NumberHashing;
 use policy_dd::edge_fn;
 use policy_dd::laws::edge_kept;
 use route_maps::Plain;
 use std::alloc::Global;
-use std::collections::HashMap;
+use std::collections::BTreeMap;
 
 /// An import that was met, with its act unless it accepts nothing.
 #[derive(Clone, Copy, Debug, PartialEq, Eq)]
@@ -24,16 +22,11 @@ pub struct Met {
     pub act: Option<u32>,
 }
 
-/// The imports that were met, which are found by the numbers of their maps.
+/// The imports that were met, and the place of each.
 #[derive(Drop)]
 pub struct MetImports {
     pub met: Vec<Met>,
-    pub by_maps: Index<usize>,
-}
-
-// What imports over the same maps are found by.
-fn pair_of(import: &ImportByMaps) -> (u32, u32) {
-    (low_half(import.out), low_half(import.into))
+    pub places: BTreeMap<ImportByMaps, usize>,
 }
 
 fn is_same_import(a: &ImportByMaps, b: &ImportByMaps) -> bool
@@ -42,22 +35,20 @@ fn is_same_import(a: &ImportByMaps, b: &ImportByMaps) -> bool
     a.out == b.out && a.sends == b.sends && a.into == b.into
 }
 
-// The import as it was met, at one of these places.
-fn met_among(met: &[Met], places: &[usize], import: &ImportByMaps) -> Option<Met>
+// The import as it was met, if it stands at this place.
+fn met_at(met: &[Met], place: usize, import: &ImportByMaps) -> Option<Met>
     ensures within { IfSome result (Contains met.now) }
     ensures import { IfSome result (λ m. m.import ≡ import.now) }
 {
-    for place in places {
-        if let Some(m) = met.get(*place) {
-            if is_same_import(&m.import, import) {
-                return Some(*m);
-            }
+    if let Some(m) = met.get(place) {
+        if is_same_import(&m.import, import) {
+            return Some(*m);
         }
     }
     None
 }
 
-// So many of the first imports are looked at before the index is asked.
+// So many of the first imports are looked at before their places are asked.
 const FEW: usize = 4;
 
 // The import as it was met, among the first few.
@@ -81,7 +72,7 @@ impl MetImports {
     {
         MetImports {
             met: Vec::new(alloc),
-            by_maps: HashMap::with_hasher(alloc, NumberHashing::plain()),
+            places: BTreeMap::new(alloc),
         }
     }
 
@@ -92,17 +83,17 @@ impl MetImports {
         if let Some(met) = met_early(&self.met, import) {
             return Some(met);
         }
-        let places = items_at(&self.by_maps, pair_of(import));
-        met_among(&self.met, places, import)
+        let place = self.places.get(import)?;
+        met_at(&self.met, *place, import)
     }
 
-    fn push(&mut self, alloc: Global, met: Met) -> Result<(), NoMemory>
+    fn push(&mut self, met: Met) -> Result<(), NoMemory>
         ensures { OnOk result (self.new.met.items ≡ self.old.met.items ++ met ∷ []) }
     {
-        let pair = pair_of(&met.import);
         let place = self.met.len();
         self.met.push(met)?;
-        push_at(alloc, &mut self.by_maps, pair, place)
+        self.places.insert(met.import, place)?;
+        Ok(())
     }
 }
 
@@ -135,12 +126,9 @@ pub fn act_of_import(
     let into = &maps[import.into];
     let function = edge_fn(alloc, store, out, import.sends, into)?;
     let act = acts.act_of_function(alloc, store, hop, import, function)?;
-    imports.push(
-        alloc,
-        Met {
-            import: *import,
-            act,
-        },
-    )?;
+    imports.push(Met {
+        import: *import,
+        act,
+    })?;
     Ok(act)
 }
