@@ -1,5 +1,5 @@
 -- What cells tell after more lists are asked.
-use Rattle.std.proofs.Common.{◌≡◌, ℕ, true, ◌&&◌, List, [], ◌∷◌, ◌++◌, map, refl, sym, ◌∙◌, ap, subst, append_assoc}
+use Rattle.std.proofs.Common.{◌≡◌, ℕ, true, ◌&&◌, List, [], ◌∷◌, ◌++◌, map, length, get_or, drop, refl, sym, ◌∙◌, ap, subst, append_assoc, append-nil, arith}
 use Rattle.std.specs.Prelude.{nat_eq}
 use Rattle.std.specs.List.{AllByRecursion}
 use Rattle.base_kit.specs.Prefixes.{Prefix}
@@ -72,17 +72,29 @@ module _ (lists : List PrefixList) where
   entries_asked [] keys = refl
   entries_asked (m ∷ ms) keys = ap (λ es. entry_of m ∷ es) (entries_asked ms (with_key keys (cell_key lists m)))
 
--- what is left to ask, after the next member with its word
-pub asked_step : (lists : List PrefixList) (m : Member) (word : ℕ) (left rest done more : List Member) (keys new : List Key) (cell : ℕ) → left ≡ m ∷ rest →
-    word ≡ word_of lists m.prefix
-    → cell ≡ place keys (m.cell, word) → new ≡ with_key keys (m.cell, word) → more ≡ done ++ of_cell m cell ∷ [] → more ++ asked lists new rest ≡ done
-    ++ asked lists keys left
-asked_step lists m word left rest done more keys new cell next told at put pushed =
-    let key = ap (λ (w : ℕ). let k : Key = (m.cell, w) in k) told in
+-- what is left to ask, after the next member with its key
+pub asked_step : (lists : List PrefixList) (m : Member) (key : Key) (left rest done more : List Member) (keys new : List Key) (cell : ℕ) → left ≡ m ∷ rest →
+    key ≡ cell_key lists m → cell ≡ place keys key → new ≡ with_key keys key → more ≡ done ++ of_cell m cell ∷ [] →
+    more ++ asked lists new rest ≡ done ++ asked lists keys left
+asked_step lists m key left rest done more keys new cell next told at put pushed =
     ap (λ ms. ms ++ asked lists new rest) pushed ∙ append_assoc done (of_cell m cell ∷ []) (asked lists new rest)
-    ∙ ap (λ k. done ++ of_cell m k ∷ asked lists new rest) (at ∙ ap (place keys) key)
-    ∙ ap (λ ks. done ++ of_cell m (place keys (cell_key lists m)) ∷ asked lists ks rest) (put ∙ ap (with_key keys) key)
+    ∙ ap (λ k. done ++ of_cell m k ∷ asked lists new rest) (at ∙ ap (place keys) told)
+    ∙ ap (λ ks. done ++ of_cell m (place keys (cell_key lists m)) ∷ asked lists ks rest) (put ∙ ap (with_key keys) told)
     ∙ ap (λ ms. done ++ asked lists keys ms) (sym next)
+
+-- the key of the next member, and those of the others
+pub next_key : (f : Member → Key) (m : Member) (key : Key) (left rest : List Member) (keys more : List Key) → left ≡ m ∷ rest → keys ≡ key ∷ more →
+    keys ≡ map f left → (key ≡ f m) × (more ≡ map f rest)
+next_key f m key left rest keys more next first are =
+    let same : key ∷ more ≡ f m ∷ map f rest = sym first ∙ are ∙ ap (λ (ms : List Member). map f ms) next in
+    (ap (λ (ks : List Key). get_or ks 0 key) same, ap (λ (ks : List Key). drop 1 ks) same)
+
+pub no_member : (f : Member → Key) (left : List Member) (keys : List Key) → keys ≡ map f left → length keys ≡ 0 → left ≡ []
+no_member f [] keys are none = refl
+no_member f (m ∷ left) keys are none = absurd (let long : length keys ≡ length (map f (m ∷ left)) = ap (λ (ks : List Key). length ks) are in omega arith)
+
+pub asked_all : (lists : List PrefixList) (left done : List Member) (keys : List Key) → left ≡ [] → done ++ asked lists keys left ≡ done
+asked_all lists left done keys none = ap (λ ms. done ++ asked lists keys ms) none ∙ append-nil done
 
 -- after more lists the cells tell what all lists so far answer
 pub asked_told : (done lists : List PrefixList) (entries : List (Prefix × List Origin)) (ms : List Member) → AreMembers entries done ms →

@@ -3,7 +3,7 @@
 ghost use Rattle.std.specs.Prelude.{◌≡◌, ◌≤◌, [], IfOk, OnOk, map, length};
 ghost use Rattle.std.specs.BTreeMap.{IsOrdered};
 ghost use Rattle.dest_classes.specs.Lists.{lists_asked};
-ghost use Rattle.dest_classes.specs.Cells.{word_of, started, asked, entries_of, AreAllTold, AreMembers};
+ghost use Rattle.dest_classes.specs.Cells.{word_of, cell_key, started, asked, entries_of, AreAllTold, AreMembers};
 ghost use Rattle.dest_classes.specs.Routes.{prefix_cmp};
 
 use crate::lists::lists_asked;
@@ -11,6 +11,7 @@ use crate::routes::Originators;
 use base_kit::{List, NoMemory, Prefix};
 use cfg_ast::{Network, Origin, PrefixList};
 use indexmap::IndexSet;
+use number_hashing::{NumberDigest, NumberHashing};
 use prefix_lists::permits;
 use std::alloc::Global;
 
@@ -38,16 +39,41 @@ fn word_of(lists: &[&PrefixList], prefix: Prefix) -> u64
     word
 }
 
+// What the members are told apart by once these lists are asked too.
+fn keys_of(
+    alloc: Global,
+    members: &[Member],
+    lists: &[&PrefixList],
+) -> Result<Vec<(usize, u64)>, NoMemory>
+    requires { length lists.now ≤ AT_ONCE }
+    ensures { IfOk result (λ v. v.items ≡ map (cell_key (map (λ list. list.now) lists.now)) members.now) }
+{
+    let mut keys = Vec::with_capacity(alloc, members.len())?;
+    for member in members {
+        keys.push((member.cell, word_of(lists, member.prefix)))?;
+    }
+    Ok(keys)
+}
+
+// The hash for a table of these keys.
+fn hashing_of(keys: &[(usize, u64)]) -> NumberHashing {
+    let mut numbers = NumberDigest::for_count(keys.len());
+    for key in keys {
+        numbers.add(key);
+    }
+    numbers.hashing()
+}
+
 // The members once these lists are asked too.
 fn ask(alloc: Global, members: Vec<Member>, lists: &[&PrefixList]) -> Result<Vec<Member>, NoMemory>
     requires { length lists.now ≤ AT_ONCE }
     ensures { IfOk result (λ v. v.items ≡ asked (map (λ list. list.now) lists.now) [] members.items) }
 {
-    let mut keys = IndexSet::new(alloc);
+    let keys = keys_of(alloc, members.as_slice(), lists)?;
+    let mut different = IndexSet::with_hasher(alloc, hashing_of(keys.as_slice()));
     let mut asked = Vec::with_capacity(alloc, members.len())?;
-    for member in members {
-        let word = word_of(lists, member.prefix);
-        let (cell, _) = keys.insert_full((member.cell, word))?;
+    for (member, key) in members.into_iter().zip(keys) {
+        let (cell, _) = different.insert_full(key)?;
         asked.push(Member { cell, ..member })?;
     }
     Ok(asked)
