@@ -99,8 +99,8 @@ pub fn run<S: Source, O: Sink, E: Sink>(
         (IsSome (request_of (bytes_of_words words.now)) × Rose (S.faults files.old (file_of (bytes_of_words words.now))) (S.faults files.new (file_of (bytes_of_words words.now)))) result
         (O.taken out.old) (O.taken out.new) (O.faults out.old) (O.faults out.new) (E.taken err.old) (E.taken err.new) (E.faults err.old) (E.faults err.new) }
 
-    // The headline: over a file that is told, each frame of `compress` and `canon` with status 0 has bytes
-    // that are read as the compressed network of its class.
+    // The headline: over a file and an output that are told, each frame of `compress` and `canon` with status
+    // 0 has bytes that are read as the compressed network of its class.
     ensures headline { (request : Request) → request_of (bytes_of_words words.now) ≡ Some request → is_compressing request.command ≡ true
         → (text : List ℕ) → S.contents files.old (file_of (bytes_of_words words.now)) ≡ Some text
         → HasHeadlines text (first_of request.asked) result (O.taken out.old) (O.taken out.new) }

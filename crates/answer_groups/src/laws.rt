@@ -37,8 +37,8 @@ pub fn alike_edges_have_one_act()
     canon_policy::laws::alike_acts_are_written_alike();
 }
 
-/// One map has equal lines at all routers, but for its name, the names of its lists and the AS numbers that
-/// it puts before the path.
+/// One map has equal lines at all routers, except for its name, the names of its lists and the AS numbers
+/// that it puts before the path.
 pub fn maps_are_written_alike()
     ensures { MapsAreWrittenAlike }
 {}

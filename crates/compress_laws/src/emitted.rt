@@ -1,8 +1,9 @@
-//! What holds of every network that is the network of the groups except for line numbers.
+//! Laws of every network that equals the network of the groups except for line numbers.
+
 ghost use Rattle.config_emit.specs.Laws.{EmittedIsNoLarger, EmittedStandsForGroups};
 ghost use Rattle.compress_laws.specs.EmittedLinks.{EmittedHasPlannedLinks};
 
-/// Its links are those of the plan, in order.
+/// The links of such a network are those of the plan, in order.
 pub fn emitted_has_planned_links()
     ensures { EmittedHasPlannedLinks }
 {
@@ -11,7 +12,7 @@ pub fn emitted_has_planned_links()
     line_number_laws::laws::links_aside();
 }
 
-/// It has no more routers and no more links than the network read.
+/// Such a network has no more routers and no more links than the network that was read.
 pub fn emitted_is_no_larger()
     ensures { EmittedIsNoLarger }
 {
@@ -20,7 +21,8 @@ pub fn emitted_is_no_larger()
     emitted_has_planned_links();
 }
 
-/// No fault of meaning stands in it, and its problem, for every prefix of the class, is that of the groups.
+/// No fault of meaning stands in such a network, and its problem, for every prefix of the class, is that of
+/// the groups.
 pub fn emitted_stands_for_groups()
     ensures { EmittedStandsForGroups }
 {

@@ -7,13 +7,13 @@
 
 ghost use Rattle.given_laws.specs.Laws.{GivenCostsArePositive, GivenIsWellFormed, GivenLinksAreInOrder, GivenPlacesAreInOrder, GivenRoutersAreWellFormed};
 
-/// Such a network is as the grammar has it: names are names, numbers lie in their ranges, what may stand
-/// once stands once, and entries ascend.
+/// A network that a text gives is as the grammar has it: names are names, numbers lie in their ranges, what
+/// may stand once stands once, and entries ascend.
 pub fn given_is_well_formed()
     ensures { GivenIsWellFormed }
 {}
 
-/// Each of its routers is as the grammar has it.
+/// Each router of such a network is as the grammar has it.
 pub fn given_routers_are_well_formed()
     ensures { GivenRoutersAreWellFormed }
 {}
@@ -23,14 +23,15 @@ pub fn given_costs_are_positive()
     ensures { GivenCostsArePositive }
 {}
 
-/// Its interfaces stand in the order of their lines, router by router, and so do their addresses and its
-/// neighbours; there are at most 1,000,000 interfaces and as many neighbours.
+/// The interfaces of such a network stand in the order of their lines, router by router, and so do their
+/// addresses and the neighbours; there are at most 1,000,000 interfaces and as many neighbours.
 pub fn given_places_are_in_order()
     ensures { GivenPlacesAreInOrder }
 {}
 
-/// Its links ascend by the pairs of the lines of their ends, the lesser line first: sessions by `remote-as`
-/// lines, adjacencies by `ip address` lines. Its unmatched neighbours ascend by their `remote-as` lines.
+/// The links of such a network ascend by the pairs of the lines of their ends, the lesser line first: sessions
+/// by `remote-as` lines, adjacencies by `ip address` lines. The unmatched neighbours ascend by their
+/// `remote-as` lines.
 pub fn given_links_are_in_order()
     ensures { GivenLinksAreInOrder }
 {}

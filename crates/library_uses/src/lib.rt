@@ -1,7 +1,7 @@
 //! How another program uses the library, from the bytes of a text to the top call and the laws.
 //!
-//! For each public call there is a function here that makes it in the form that is promised. If the form
-//! changes, this crate does not compile. The module `records` takes apart what a text gives, `laws` calls
+//! For each call of the table of docs/inside/LIBRARY.md there is a function here that makes it in the form
+//! that is promised. If the form changes, this crate does not compile. The module `records` takes apart what a text gives, `laws` calls
 //! laws, and `worked` has four uses in full.
 #![tactic(auto)]
 

@@ -392,7 +392,7 @@ pub fn change_again(change: Change) -> Change
     }
 }
 
-/// Why a text is no network: the line at fault and its kind, or want of memory.
+/// Why a text is no network: the line at fault and its kind, or that memory ran out.
 pub fn refusal_again(refusal: ReadRefusal) -> ReadRefusal
     ensures { result ≡ refusal }
 {
