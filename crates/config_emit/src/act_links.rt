@@ -169,7 +169,7 @@ fn links_filled_by(
 ) -> Result<Vec<ActLink>, NoMemory>
     ensures { IfOk result (λ found. found.items ≡ map (act_link_by fill.now edges.now) (enumerate_from 0 links.now)) }
 {
-    let mut found = Vec::new(alloc);
+    let mut found = Vec::with_capacity(alloc, links.len())?;
     for i in 0..links.len() {
         let link = &links[i];
         found.push(drawn(edges, i, link, filled_sides(fill, link)))?;

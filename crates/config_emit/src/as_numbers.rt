@@ -70,7 +70,7 @@ pub(crate) fn numbers_of_groups(
     requires links { HasLinks (plan_of source.now) index.now }
     ensures { IfOk result (λ numbers. numbers.items ≡ map (number_of_group source.now.srp.now source.now.groups.now source.now.links.now) (range_with_len 0 source.now.count)) }
 {
-    let mut numbers = Vec::new(alloc);
+    let mut numbers = Vec::with_capacity(alloc, source.count as usize)?;
     for group in 0..source.count {
         numbers.push(number_of_group(source, index, group))?;
     }

@@ -11,6 +11,7 @@ use crate::act_maps::{Policies, maps_at};
 use crate::as_numbers::number_at;
 use crate::link_interfaces::side_on;
 use crate::number::link_addr;
+use crate::room::list_with_room;
 use crate::router_maps::{RouterMaps, far_end, use_name};
 use base_kit::{List, NoMemory, Prefix};
 use cfg_ast::{Base, Neighbor, NetLine, Router};
@@ -20,7 +21,7 @@ use std::alloc::Global;
 pub(crate) fn net_lines(alloc: Global, prefixes: &[Prefix]) -> Result<List<NetLine>, NoMemory>
     ensures { IfOk result (λ lines. lines ≡ map announced prefixes.now) }
 {
-    let mut lines = List::new(alloc);
+    let mut lines = list_with_room(alloc, prefixes.len())?;
     for prefix in prefixes {
         lines.push(NetLine {
             prefix: *prefix,
@@ -90,7 +91,7 @@ pub(crate) fn neighbors_of(
     requires few { All (λ l. l.number < 1048576) links.now }
     ensures { IfOk result (λ ns. ns ≡ map (neighbor_of (maps_now policies.now.maps.items) policies.now.acts.now (map use_now maps.now.uses.items) numbers.now group) links.now) }
 {
-    let mut neighbors = List::new(alloc);
+    let mut neighbors = list_with_room(alloc, links.len())?;
     for link in links {
         neighbors.push(neighbor_of(alloc, policies, maps, numbers, group, link)?)?;
     }

@@ -16,8 +16,9 @@ use crate::act_maps::Policies;
 use crate::as_numbers::number_at;
 use crate::bgp::{base_of, neighbors_of, net_lines};
 use crate::groups::{first_member, name_at};
-use crate::link_interfaces::push_link_interfaces;
+use crate::link_interfaces::with_link_interfaces;
 use crate::links_by_group::{LinksByGroup, links_of};
+use crate::room::list_with_room;
 use crate::router_maps::{RouterMaps, router_maps};
 use crate::routers::class_interfaces_of;
 use crate::source::{Source, originates, router_at};
@@ -145,9 +146,9 @@ fn bgp_router(
     requires inside { group < source.now.count }
     ensures { IfOk result (λ router. router ≡ emitted_router (plan_of source.now) group) }
 {
-    let mut interfaces = class_interfaces_of(alloc, source, group)?;
+    let of_class = class_interfaces_of(alloc, source, group)?;
     let links = links_of(index, group);
-    push_link_interfaces(alloc, &mut interfaces, source.srp.acts(), group, links)?;
+    let interfaces = with_link_interfaces(alloc, of_class, source.srp.acts(), group, links)?;
     let maps = maps_of_group(alloc, source, policies, group, links)?;
     let bgp = process(alloc, source, policies, &maps, numbers, group, links)?;
     let community_lists = lists_of(alloc, &maps)?;
@@ -180,7 +181,7 @@ pub(crate) fn bgp_routers(
     requires numbers { HasGroupNumbers (plan_of source.now) numbers.now }
     ensures { IfOk result (λ routers. routers ≡ map (emitted_router (plan_of source.now)) (range_with_len 0 source.now.count)) }
 {
-    let mut routers = List::new(alloc);
+    let mut routers = list_with_room(alloc, source.count as usize)?;
     for group in 0..source.count {
         routers.push(bgp_router(alloc, source, index, policies, numbers, group)?)?;
     }

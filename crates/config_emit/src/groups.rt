@@ -5,6 +5,7 @@ ghost use Rattle.std.specs.List.{range_with_len};
 ghost use Rattle.base_kit.specs.Partition.{IsNumbered, members_of};
 ghost use Rattle.srp_quotient.specs.Groups.{first_member};
 
+use crate::room::list_with_room;
 use base_kit::{List, NoMemory, Text};
 use refine_partition::Partition;
 use std::alloc::Global;
@@ -22,7 +23,10 @@ pub(crate) fn name_at(alloc: Global, names: &[Text], place: u32) -> Result<Text,
     ensures { IfOk result (λ name. name ≡ slice_index_or names.now place []) }
 {
     match names.get(place as usize) {
-        Some(name) => Text::copy_of(alloc, name.as_str()),
+        Some(name) => {
+            let copy = String::from_str(alloc, name.as_str())?;
+            Ok(Text::from_string(copy))
+        }
         None => Ok(Text::new(alloc)),
     }
 }
@@ -30,7 +34,7 @@ pub(crate) fn name_at(alloc: Global, names: &[Text], place: u32) -> Result<Text,
 fn names_at(alloc: Global, names: &[Text], places: &[u32]) -> Result<List<Text>, NoMemory>
     ensures { IfOk result (λ found. found ≡ map (λ u. slice_index_or names.now u []) places.now) }
 {
-    let mut found = List::new(alloc);
+    let mut found = list_with_room(alloc, places.len())?;
     for place in places {
         found.push(name_at(alloc, names, *place)?)?;
     }
@@ -47,7 +51,7 @@ pub(crate) fn member_names(
     requires { IsNumbered groups.now count }
     ensures { IfOk result (λ found. found ≡ map (λ g. map (λ u. slice_index_or names.now u []) (members_of groups.now g)) (range_with_len 0 count)) }
 {
-    let mut found = List::new(alloc);
+    let mut found = list_with_room(alloc, count as usize)?;
     for group in 0..count {
         found.push(names_at(alloc, names, groups.members(group))?)?;
     }

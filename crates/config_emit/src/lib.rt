@@ -23,6 +23,7 @@ mod network;
 mod number;
 mod ospf;
 mod pool;
+mod room;
 mod router_maps;
 mod routers;
 mod source;

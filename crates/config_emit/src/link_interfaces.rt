@@ -1,6 +1,6 @@
 //! Interfaces on the links of a group.
 
-ghost use Rattle.std.specs.Prelude.{◌≡◌, ◌<◌, ◌++◌, All, map, IfOk, OnOk};
+ghost use Rattle.std.specs.Prelude.{◌≡◌, ◌<◌, ◌++◌, All, map, IfOk};
 ghost use Rattle.std.specs.List.{enumerate_from};
 ghost use Rattle.std.specs.Option.{option_and_then, option_map};
 ghost use Rattle.config_emit.specs.Interfaces.{cost_by};
@@ -60,19 +60,21 @@ fn interface_of_link(
     })
 }
 
-/// Appends the interfaces of the links of a group, numbered from 1.
-pub(crate) fn push_link_interfaces(
+/// The interfaces and behind them those of the links of a group, numbered from 1.
+pub(crate) fn with_link_interfaces(
     alloc: Global,
-    found: &mut List<Interface>,
+    interfaces: List<Interface>,
     acts: &[Act],
     group: u32,
     links: &[ActLink],
-) -> Result<(), NoMemory>
+) -> Result<List<Interface>, NoMemory>
     requires { All (λ l. l.number < 1048576) links.now }
-    ensures { OnOk result (found.new ≡ found.old ++ map (interface_of_link acts.now group) (enumerate_from 1 links.now)) }
+    ensures { IfOk result (λ all. all ≡ interfaces ++ map (interface_of_link acts.now group) (enumerate_from 1 links.now)) }
 {
+    let mut all = interfaces.into_vec();
+    all.reserve_exact(links.len())?;
     for i in 0..links.len() {
-        found.push(interface_of_link(alloc, acts, group, i + 1, &links[i])?)?;
+        all.push(interface_of_link(alloc, acts, group, i + 1, &links[i])?)?;
     }
-    Ok(())
+    Ok(List::from_vec(all))
 }

@@ -3,6 +3,7 @@
 ghost use Rattle.std.specs.Prelude.{◌≡◌, map, filter_map, IfOk};
 ghost use Rattle.config_emit.specs.Emitted.{host_area_line, interface_name, ospf_on};
 
+use crate::room::list_with_room;
 use base_kit::{List, NoMemory, Text};
 use cfg_ast::{AreaLine, Interface, OspfProcess};
 use std::alloc::Global;
@@ -28,7 +29,7 @@ fn area_lines(
 ) -> Result<List<AreaLine>, NoMemory>
     ensures { IfOk result (λ lines. lines ≡ filter_map (host_area_line area) interfaces.now) }
 {
-    let mut lines = List::new(alloc);
+    let mut lines = list_with_room(alloc, interfaces.len())?;
     for interface in interfaces {
         if let Some(line) = area_line(area, interface) {
             lines.push(line)?;
@@ -40,7 +41,7 @@ fn area_lines(
 fn names_of(alloc: Global, interfaces: &[Interface]) -> Result<List<Text>, NoMemory>
     ensures { IfOk result (λ names. names ≡ map interface_name interfaces.now) }
 {
-    let mut names = List::new(alloc);
+    let mut names = list_with_room(alloc, interfaces.len())?;
     for interface in interfaces {
         names.push(Text::copy_of(alloc, interface.name.as_str())?)?;
     }

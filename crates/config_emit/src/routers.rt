@@ -9,9 +9,10 @@ ghost use Rattle.config_emit.specs.Sources.{plan_of, IsSource, HasLinks};
 
 use crate::class_interfaces::class_interfaces;
 use crate::groups::{first_member, name_at};
-use crate::link_interfaces::push_link_interfaces;
+use crate::link_interfaces::with_link_interfaces;
 use crate::links_by_group::{LinksByGroup, links_of};
 use crate::ospf::ospf_on;
+use crate::room::list_with_room;
 use crate::source::{Source, originates, router_at};
 use base_kit::{List, NoMemory};
 use cfg_ast::{Interface, Router};
@@ -55,12 +56,12 @@ fn ospf_router(
     requires inside { group < source.now.count }
     ensures { IfOk result (λ router. router ≡ emitted_router (plan_of source.now) group) }
 {
-    let mut interfaces = class_interfaces_of(alloc, source, group)?;
-    let of_class = interfaces.len();
+    let of_class = class_interfaces_of(alloc, source, group)?;
+    let passive = of_class.len();
     let links = links_of(index, group);
-    push_link_interfaces(alloc, &mut interfaces, source.srp.acts(), group, links)?;
+    let interfaces = with_link_interfaces(alloc, of_class, source.srp.acts(), group, links)?;
     let all = interfaces.as_slice();
-    let ospf = ospf_on(alloc, area, &all[..of_class], all)?;
+    let ospf = ospf_on(alloc, area, &all[..passive], all)?;
     let first = first_member(source.groups, group);
     Ok(Router {
         name: name_at(alloc, source.srp.names().as_slice(), first)?,
@@ -87,7 +88,7 @@ pub(crate) fn ospf_routers(
     requires area { area ≡ area_number (plan_of source.now) }
     ensures { IfOk result (λ routers. routers ≡ map (emitted_router (plan_of source.now)) (range_with_len 0 source.now.count)) }
 {
-    let mut routers = List::new(alloc);
+    let mut routers = list_with_room(alloc, source.count as usize)?;
     for group in 0..source.count {
         routers.push(ospf_router(alloc, source, index, area, group)?)?;
     }

@@ -2,7 +2,7 @@
 
 use crate::act_links::{ActLink, Sides, last_sides, sides_at};
 use crate::act_maps::policies_of;
-use crate::link_interfaces::push_link_interfaces;
+use crate::link_interfaces::with_link_interfaces;
 use crate::pool::pool_line;
 use crate::written::{push_lists_of_map, written_map};
 use abstract_net::QLink;
@@ -137,8 +137,8 @@ fn the_high_end_of_a_link_has_the_odd_address(rt: HostRuntime) -> Result<(), NoM
         to_low: Some(0),
         to_high: Some(1),
     }];
-    let mut found = List::new(alloc);
-    push_link_interfaces(alloc, &mut found, acts.as_slice(), 1, links.as_slice())?;
+    let none = List::new(alloc);
+    let found = with_link_interfaces(alloc, none, acts.as_slice(), 1, links.as_slice())?;
     for interface in found.as_slice() {
         assert_eq!(rt; interface.name.as_str(), "GigabitEthernet0/1");
         assert_eq!(rt; interface.cost, Some(8));

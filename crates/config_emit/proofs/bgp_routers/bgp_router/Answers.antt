@@ -32,8 +32,8 @@ process-requires-clause-links c = record {
       ∙ links_are (plan_of c.args.source.now) c.args.group c.args.index.now c.requires.inside c.requires.links;
 }
 
-pub push_link_interfaces-requires : goal.push_link_interfaces-requires
-push_link_interfaces-requires c =
+pub with_link_interfaces-requires : goal.with_link_interfaces-requires
+with_link_interfaces-requires c =
     let e = plan_of c.args.source.now in
     numbers_below e c.args.group c.links_of-links.result.now c.requires.source.few
     (c.links_of-links.ensures ∙ links_are e c.args.group c.args.index.now c.requires.inside c.requires.links)
@@ -44,8 +44,8 @@ returns c =
     let g = c.args.group in
     let named = c.in_ok-name_at.ensures ∙ ap (λ (names : List (List ℕ)). slice_index_or names c.first_member-first.result [])
     (c.as_slice.ensures ∙ c.names.ensures) ∙ ap (λ u. slice_index_or e.problem.names u []) c.first_member-first.ensures ∙ name_is e g c.requires.inside in
-    let are = c.in_ok-push_link_interfaces.ensures
-    ∙ ap (λ xs. xs ++ map (interface_of_link c.acts.result.now g) (enumerate_from 1 c.links_of-links.result.now)) c.in_ok-interfaces.ensures
+    let are = c.in_ok-interfaces.ensures
+    ∙ ap (λ xs. xs ++ map (interface_of_link c.acts.result.now g) (enumerate_from 1 c.links_of-links.result.now)) c.in_ok-of_class.ensures
     ∙ ap (λ (acts : List Act). class_interfaces e g ++ map (interface_of_link acts g) (enumerate_from 1 c.links_of-links.result.now)) c.acts.ensures
     ∙ ap (λ (ls : List ActLink). class_interfaces e g ++ map (interface_of_link e.problem.acts g) (enumerate_from 1 ls)) c.links_of-links.ensures
     ∙ ap (λ xs. class_interfaces e g ++ xs) (link_interfaces_are e g c.args.index.now c.requires.inside c.requires.links) in
@@ -55,5 +55,5 @@ returns c =
     let written = c.in_ok-route_maps.ensures
     ∙ ap (λ n. map (written_map n) (enumerate_from 1 (plains_now c.in_ok-maps.maps.uses.items))) numbered
     ∙ ap (λ (ms : List Plain). map (written_map (number (small e) g)) (enumerate_from 1 ms)) maps in
-    router_is e g c.in_ok-name_at.field-0 c.push_link_interfaces.new.found c.in_ok-bgp.bgp c.new.result c.in_ok-community_lists.community_lists
+    router_is e g c.in_ok-name_at.field-0 c.in_ok-interfaces.interfaces c.in_ok-bgp.bgp c.new.result c.in_ok-community_lists.community_lists
     c.in_ok-route_maps.route_maps c.requires.bgp named are c.in_ok-bgp.ensures c.new.ensures lists written

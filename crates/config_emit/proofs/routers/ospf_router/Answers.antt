@@ -16,8 +16,8 @@ use Rattle.config_emit.proofs.routers.ospf_router.Goals as goal
 pub links_of-links-requires : goal.links_of-links-requires
 links_of-links-requires c = c.requires.links.links.has c.args.group c.requires.inside
 
-pub push_link_interfaces-requires : goal.push_link_interfaces-requires
-push_link_interfaces-requires c =
+pub with_link_interfaces-requires : goal.with_link_interfaces-requires
+with_link_interfaces-requires c =
     let e = plan_of c.args.source.now in
     numbers_below e c.args.group c.links_of-links.result.now c.requires.source.few
     (c.links_of-links.ensures ∙ links_are e c.args.group c.args.index.now c.requires.inside c.requires.links)
@@ -28,17 +28,17 @@ returns c =
     let g = c.args.group in
     let named = c.in_ok-name_at.ensures ∙ ap (λ (names : List (List ℕ)). slice_index_or names c.first_member-first.result [])
     (c.as_slice.ensures ∙ c.names.ensures) ∙ ap (λ u. slice_index_or e.problem.names u []) c.first_member-first.ensures ∙ name_is e g c.requires.inside in
-    let are = c.in_ok-push_link_interfaces.ensures
-    ∙ ap (λ xs. xs ++ map (interface_of_link c.acts.result.now g) (enumerate_from 1 c.links_of-links.result.now)) c.in_ok-interfaces.ensures
+    let are = c.in_ok-interfaces.ensures
+    ∙ ap (λ xs. xs ++ map (interface_of_link c.acts.result.now g) (enumerate_from 1 c.links_of-links.result.now)) c.in_ok-of_class.ensures
     ∙ ap (λ (acts : List Act). class_interfaces e g ++ map (interface_of_link acts g) (enumerate_from 1 c.links_of-links.result.now)) c.acts.ensures
     ∙ ap (λ (ls : List ActLink). class_interfaces e g ++ map (interface_of_link e.problem.acts g) (enumerate_from 1 ls)) c.links_of-links.ensures
     ∙ ap (λ xs. class_interfaces e g ++ xs) (link_interfaces_are e g c.args.index.now c.requires.inside c.requires.links) in
     let links = link_interfaces e g in
     let all = class_interfaces e g ++ links in
     let process = c.in_ok-ospf.ensures
-    ∙ ap (λ (xs : List Interface). ospf_on c.args.area (take c.len-of_class.result xs) xs) (c.as_slice-all.ensures ∙ are)
-    ∙ ap (λ n. ospf_on c.args.area (take n all) all) (c.len-of_class.ensures ∙ ap length c.in_ok-interfaces.ensures)
+    ∙ ap (λ (xs : List Interface). ospf_on c.args.area (take c.len-passive.result xs) xs) (c.as_slice-all.ensures ∙ are)
+    ∙ ap (λ n. ospf_on c.args.area (take n all) all) (c.len-passive.ensures ∙ ap length c.in_ok-of_class.ensures)
     ∙ ap (λ xs. ospf_on c.args.area xs all) (take-append_seam (class_interfaces e g) links)
     ∙ ap (λ a. ospf_on a (class_interfaces e g) all) c.requires.area in
-    router_is e g c.in_ok-name_at.field-0 c.push_link_interfaces.new.found c.in_ok-ospf.ospf c.new.result c.new-2.result c.new-3.result c.requires.ospf named
+    router_is e g c.in_ok-name_at.field-0 c.in_ok-interfaces.interfaces c.in_ok-ospf.ospf c.new.result c.new-2.result c.new-3.result c.requires.ospf named
     are process c.new.ensures c.new-2.ensures c.new-3.ensures
