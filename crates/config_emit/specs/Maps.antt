@@ -12,6 +12,7 @@ use Rattle.cfg_ast.specs.declared.policy.NameLine.{NameLine}
 use Rattle.cfg_ast.specs.declared.policy.Prepend.{Prepend}
 use Rattle.cfg_ast.specs.declared.policy.RouteMap.{RouteMap}
 use Rattle.cfg_ast.specs.printing.Bare.{bare_community_line}
+use Rattle.cfg_ast.specs.text.PolicyForms.{empty_entry}
 use Rattle.abstract_net.specs.declared.qlink.QLink.{QLink}
 use Rattle.route_maps.specs.Same.{same_map}
 use Rattle.route_maps.specs.declared.plain.Plain.{Plain}
@@ -165,20 +166,7 @@ written_entry number k x = record {
 
 -- `deny 10`
 abbrev pub denying_entry : MapEntry
-denying_entry = record {
-  seq = 10;
-  permit = false;
-  line = 0;
-  prefixes = None;
-  comms = None;
-  exact = false;
-  lp = None;
-  change = None;
-  change_line = 0;
-  delete =
-      None;
-  prepend = None;
-}
+denying_entry = empty_entry 10 false 0
 
 -- a map without entries is written as one that denies
 abbrev pub written_entries : ℕ → ℕ → List PlainEntry → List MapEntry
