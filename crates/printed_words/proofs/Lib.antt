@@ -1,2 +1,2 @@
-mod Addresses
 pub mod Joined
+mod LookedUp

@@ -6,7 +6,7 @@ ghost use Rattle.cfg_ast.specs.printing.Printed.{community_text};
 ghost use Rattle.printed_words.specs.Grown.{HasGrown};
 ghost use Rattle.printed_words.specs.Spaced.{spaced, spaced_words};
 
-use crate::values::{put_community, put_digits};
+use crate::pieces::{Piece, add_community, add_number};
 use base_kit::{List, NumSet, Text};
 use std::alloc::AllocError;
 
@@ -30,10 +30,12 @@ pub fn put_name(text: &mut String, name: &Text) -> Result<(), AllocError>
 /// Appends a number behind a blank.
 pub fn put_number(text: &mut String, number: u32) -> Result<(), AllocError>
     ensures ok { OnOk result (string_bytes text.new ≡ string_bytes text.old ++ spaced (decimal number)) }
-    ensures err { OnErr result (HasGrown (string_bytes text.old) (string_bytes text.new)) }
+    ensures err { OnErr result (string_bytes text.new ≡ string_bytes text.old) }
 {
-    text.push_str(" ")?;
-    put_digits(text, u64::from(number))
+    let mut piece = Piece::new();
+    piece.push_str(" ");
+    add_number(&mut piece, number);
+    text.push_str(piece.as_str())
 }
 
 /// Appends each name behind a blank.
@@ -60,6 +62,17 @@ pub fn put_numbers(text: &mut String, numbers: &List<u32>) -> Result<(), AllocEr
     Ok(())
 }
 
+// Appends a community behind a blank.
+fn put_community_word(text: &mut String, community: u32) -> Result<(), AllocError>
+    ensures ok { OnOk result (string_bytes text.new ≡ string_bytes text.old ++ spaced (community_text community)) }
+    ensures err { OnErr result (string_bytes text.new ≡ string_bytes text.old) }
+{
+    let mut piece = Piece::new();
+    piece.push_str(" ");
+    add_community(&mut piece, community);
+    text.push_str(piece.as_str())
+}
+
 /// Appends each community behind a blank.
 pub fn put_communities(text: &mut String, comms: &NumSet) -> Result<(), AllocError>
     ensures ok { OnOk result (string_bytes text.new ≡ string_bytes text.old ++ spaced_words (map community_text comms.now)) }
@@ -67,8 +80,7 @@ pub fn put_communities(text: &mut String, comms: &NumSet) -> Result<(), AllocErr
 {
     let items = comms.as_slice();
     for community in items {
-        text.push_str(" ")?;
-        put_community(text, *community)?;
+        put_community_word(text, *community)?;
     }
     Ok(())
 }
