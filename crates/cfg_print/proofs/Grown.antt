@@ -1,6 +1,6 @@
 -- Texts that grow at their end.
 use Rattle.std.proofs.Common.{◌≡◌, ℕ, ◌+◌, ◌<◌, List, ◌∷◌, ◌++◌, length, get_or, drop, map, Result, Ok, Err, sym, ap, ◌∙◌, append_assoc}
-use Rattle.std.specs.Prelude.{OnOk}
+use Rattle.std.specs.Prelude.{OnOk, is_ok, if◌then◌else◌}
 use Rattle.std.proofs.lemmas.Grind.{flat_map-append}
 use Rattle.std.proofs.lemmas.List.{drop_more}
 use Rattle.std.specs.declared.alloc.AllocError.{AllocError}
@@ -20,6 +20,11 @@ ends (Err e) old a t b new line first second whole = tt
 pub written : (r : Result (Unit {0}) AllocError) (old a new line : List ℕ) → OnOk r (new ≡ old ++ a) → line ≡ a → OnOk r (new ≡ old ++ line)
 written (Ok x) old a new line first whole = first ∙ ap (λ (xs : List ℕ). old ++ xs) (sym whole)
 written (Err e) old a new line first whole = tt
+
+-- a piece that one call appends
+pub pushed : (r : Result (Unit {0}) AllocError) (old a new line : List ℕ) → new ≡ (if is_ok r then old ++ a else old) → a ≡ line → OnOk r (new ≡ old ++ line)
+pushed (Ok x) old a new line is whole = is ∙ ap (λ (xs : List ℕ). old ++ xs) whole
+pushed (Err e) old a new line is whole = tt
 
 -- lines more
 pub lines_grown : (old : List ℕ) (xs : List TextLine) (t : List ℕ) (ys : List TextLine) (new : List ℕ) → t ≡ old ++ lines_text xs → new ≡ t ++ lines_text ys →

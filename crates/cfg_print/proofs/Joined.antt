@@ -17,12 +17,12 @@ use Rattle.cfg_ast.specs.declared.policy.Change.TheVariants.{Clear, Replace, App
 use Rattle.cfg_ast.specs.printing.Printed.{line_text, lines_text, closing, closed, router_lines, routers_lines, match_prefixes_line, match_comms_line, change_line, prepend_line, lp_line, map_head_line, delete_line, peer_sends_line, address_text, community_text, community_list_name, community_list_line, act_text, bound_words, prefix_text, prefix_entry_line}
 use Rattle.printed_words.specs.Spaced.{spaced, spaced_words}
 use Rattle.printed_words.proofs.Joined.{joined, spaced_both}
-use Rattle.cfg_print.specs.Fronts.{prefix_entry_head}
+use Rattle.cfg_print.specs.Fronts.{prefix_words}
 
 -- ---- lines with as many words as there are
 
-regroup_head : (n a d : List ℕ) → codes "route-map " ++ (n ++ 32 ∷ (a ++ 32 ∷ d)) ++ 10 ∷ [] ≡ codes "route-map" ++ spaced n ++ spaced a ++ spaced d
-    ++ codes "\n"
+regroup_head : (n a d : List ℕ) → codes "route-map " ++ (n ++ 32 ∷ (a ++ 32 ∷ d)) ++ 10 ∷ [] ≡ codes "route-map " ++ n
+    ++ (spaced a ++ codes " " ++ d ++ codes "\n")
 regroup_head n a d = simp append_assoc
 
 pub match_prefixes_text : (l : NameLine) → line_text (match_prefixes_line l) ≡ codes " match ip address prefix-list" ++ spaced_words l.names ++ 10 ∷ []
@@ -74,13 +74,13 @@ community_line_text name c =
     (append_assoc (codes "ip community-list" ++ spaced_words names) (spaced (act_text c.permit)) (spaced_words words)))
 
 regroup : (n d a p g l : List ℕ)
-    → codes "ip prefix-list " ++ (n ++ 32 ∷ (codes "seq" ++ 32 ∷ (d ++ 32 ∷ (a ++ 32 ∷ (p ++ (g ++ l)))))) ++ 10 ∷ [] ≡ codes "ip prefix-list" ++ spaced n
-    ++ codes " seq" ++ spaced d ++ spaced a ++ codes " " ++ p ++ g ++ l ++ 10 ∷ []
+    → codes "ip prefix-list " ++ (n ++ 32 ∷ (codes "seq" ++ 32 ∷ (d ++ 32 ∷ (a ++ 32 ∷ (p ++ (g ++ l)))))) ++ 10 ∷ [] ≡ codes "ip prefix-list " ++ n
+    ++ (codes " seq " ++ d ++ spaced a ++ codes " " ++ p ++ g ++ l ++ 10 ∷ [])
 regroup n d a p g l = simp append_assoc
 
-pub prefix_entry_text : (name : List ℕ) (e : PrefixEntry) → line_text (prefix_entry_line name e) ≡ prefix_entry_head name e
-    ++ spaced_words (bound_words (codes "ge") e.ge) ++ spaced_words (bound_words (codes "le") e.le) ++ 10 ∷ []
-unfolding prefix_entry_line prefix_entry_head
+pub prefix_entry_text : (name : List ℕ) (e : PrefixEntry) → line_text (prefix_entry_line name e) ≡ codes "ip prefix-list " ++ name
+    ++ (prefix_words e ++ spaced_words (bound_words (codes "ge") e.ge) ++ spaced_words (bound_words (codes "le") e.le) ++ 10 ∷ [])
+unfolding prefix_entry_line prefix_words
 prefix_entry_text name e =
     let ge = bound_words (codes "ge") e.ge in
     let le = bound_words (codes "le") e.le in
@@ -88,8 +88,8 @@ prefix_entry_text name e =
     (joined (prefix_text e.prefix) (ge ++ le) ∙ ap (λ (ys : List ℕ). prefix_text e.prefix ++ ys) (spaced_both ge le))
     ∙ regroup name (decimal e.seq) (act_text e.permit) (prefix_text e.prefix) (spaced_words ge) (spaced_words le)
 
-pub map_head_text : (name : List ℕ) (e : MapEntry) → lines_text (map_head_line name e ∷ []) ≡ codes "route-map" ++ spaced name ++ spaced (act_text e.permit)
-    ++ spaced (decimal e.seq) ++ codes "\n"
+pub map_head_text : (name : List ℕ) (e : MapEntry) → lines_text (map_head_line name e ∷ []) ≡ codes "route-map " ++ name
+    ++ (spaced (act_text e.permit) ++ codes " " ++ decimal e.seq ++ codes "\n")
 unfolding map_head_line
 map_head_text name e = append-nil (line_text (map_head_line name e)) ∙ regroup_head name (act_text e.permit) (decimal e.seq)
 

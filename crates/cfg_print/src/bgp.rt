@@ -1,22 +1,21 @@
 //! The printed lines of a BGP process.
 
-ghost use Rattle.std.specs.Prelude.{◌≡◌, ◌++◌, ◌∷◌, [], OnOk, string_bytes, flat_map, map, codes};
+ghost use Rattle.std.specs.Prelude.{◌≡◌, ◌+◌, ◌≤◌, ◌++◌, ◌∷◌, [], OnOk, string_bytes, length, flat_map, map, codes};
 ghost use Rattle.std.specs.Fmt.{decimal};
 ghost use Rattle.cfg_ast.specs.printing.Printed.{line, line_text, lines_text, line_of_given, line_if, base_line, network_line, remote_line, peer_shut_line, peer_sends_line, applied_line, neighbor_lines, bgp_lines};
+ghost use Rattle.cfg_print.specs.Fronts.{peer_front};
 
-use crate::words::{put, put_closing};
+use crate::words::{put_around, put_closing, put_numbered_line};
 use base_kit::List;
-use cfg_ast::{Base, BgpProcess, Named, Neighbor, NetLine, mask_of};
-use printed_words::{put_address, put_digits};
+use cfg_ast::{Base, BgpProcess, Named, Neighbor, NetLine};
+use printed_words::{Piece, add_address, add_number, mask_text};
 use std::alloc::AllocError;
-use std::fmt::Write;
 
 #[tactic(auto, unfolding(cfg_ast::specs::printing::Printed::base_line))]
 fn put_base(text: &mut String, base: &Base) -> Result<(), AllocError>
     ensures { OnOk result (string_bytes text.new ≡ string_bytes text.old ++ line_text (base_line base.now)) }
 {
-    let value = base.value;
-    write!(text, " bgp default local-preference {value}\n")
+    put_numbered_line(text, " bgp default local-preference ", base.value)
 }
 
 fn put_some_base(text: &mut String, base: &Option<Base>) -> Result<(), AllocError>
@@ -32,11 +31,13 @@ fn put_some_base(text: &mut String, base: &Option<Base>) -> Result<(), AllocErro
 fn put_network(text: &mut String, net: &NetLine) -> Result<(), AllocError>
     ensures { OnOk result (string_bytes text.new ≡ string_bytes text.old ++ line_text (network_line net.now)) }
 {
-    text.push_str(" network ")?;
-    put_address(text, net.prefix.addr())?;
-    text.push_str(" mask ")?;
-    put_address(text, mask_of(net.prefix.len()))?;
-    text.push_str("\n")
+    let mut line = Piece::new();
+    line.push_str(" network ");
+    add_address(&mut line, net.prefix.addr());
+    line.push_str(" mask ");
+    line.push_str(mask_text(net.prefix.len()));
+    line.push_str("\n");
+    text.push_str(line.as_str())
 }
 
 fn put_networks(text: &mut String, nets: &List<NetLine>) -> Result<(), AllocError>
@@ -49,50 +50,67 @@ fn put_networks(text: &mut String, nets: &List<NetLine>) -> Result<(), AllocErro
     Ok(())
 }
 
+// What each line of a neighbor begins with.
+fn peer_front(addr: u32) -> Piece
+    ensures bytes { result.bytes ≡ peer_front addr }
+    ensures len { length result.bytes ≤ 25 }
+{
+    let mut front = Piece::new();
+    front.push_str(" neighbor ");
+    add_address(&mut front, addr);
+    front
+}
+
 #[tactic(auto, unfolding(cfg_ast::specs::printing::Printed::remote_line))]
-fn put_remote(text: &mut String, peer: &Neighbor) -> Result<(), AllocError>
+fn put_remote(text: &mut String, front: &Piece, peer: &Neighbor) -> Result<(), AllocError>
+    requires begins { front.now.bytes ≡ peer_front peer.now.addr }
+    requires room { length front.now.bytes ≤ 25 }
     ensures { OnOk result (string_bytes text.new ≡ string_bytes text.old ++ line_text (remote_line peer.now.addr peer.now.remote)) }
 {
-    text.push_str(" neighbor ")?;
-    put_address(text, peer.addr)?;
-    text.push_str(" remote-as ")?;
-    put_digits(text, u64::from(peer.remote))?;
-    text.push_str("\n")
+    let mut line = *front;
+    line.push_str(" remote-as ");
+    add_number(&mut line, peer.remote);
+    line.push_str("\n");
+    text.push_str(line.as_str())
 }
 
 #[tactic(auto, unfolding(cfg_ast::specs::printing::Printed::peer_shut_line))]
-fn put_peer_shut(text: &mut String, addr: u32) -> Result<(), AllocError>
-    ensures { OnOk result (string_bytes text.new ≡ string_bytes text.old ++ line_text (peer_shut_line addr)) }
-{
-    text.push_str(" neighbor ")?;
-    put_address(text, addr)?;
-    text.push_str(" shutdown\n")
-}
-
-fn put_if_shut(text: &mut String, peer: &Neighbor) -> Result<(), AllocError>
+fn put_if_shut(text: &mut String, front: &Piece, peer: &Neighbor) -> Result<(), AllocError>
+    requires begins { front.now.bytes ≡ peer_front peer.now.addr }
+    requires room { length front.now.bytes ≤ 25 }
     ensures { OnOk result (string_bytes text.new ≡ string_bytes text.old ++ lines_text (line_if peer.now.shut (peer_shut_line peer.now.addr))) }
 {
     if peer.shut {
-        return put_peer_shut(text, peer.addr);
+        let mut line = *front;
+        line.push_str(" shutdown\n");
+        return text.push_str(line.as_str());
     }
     Ok(())
 }
 
-fn put_peer_sends(text: &mut String, addr: u32) -> Result<(), AllocError>
-    ensures { OnOk result (string_bytes text.new ≡ string_bytes text.old ++ line_text (peer_sends_line addr)) }
-{
-    put(text, " neighbor ")?;
-    put_address(text, addr)?;
-    put(text, " send-community\n")
-}
-
-fn put_if_sends(text: &mut String, peer: &Neighbor) -> Result<(), AllocError>
+fn put_if_sends(text: &mut String, front: &Piece, peer: &Neighbor) -> Result<(), AllocError>
+    requires begins { front.now.bytes ≡ peer_front peer.now.addr }
+    requires room { length front.now.bytes ≤ 25 }
     ensures { OnOk result (string_bytes text.new ≡ string_bytes text.old ++ lines_text (line_if peer.now.sends (peer_sends_line peer.now.addr))) }
 {
     if peer.sends {
-        return put_peer_sends(text, peer.addr);
+        let mut line = *front;
+        line.push_str(" send-community\n");
+        return text.push_str(line.as_str());
     }
     Ok(())
+}
+
+// The word of a direction, up to the end of its line.
+fn way_end(way: &str) -> Piece
+    requires { length way.now ≤ 3 }
+    ensures { result.bytes ≡ 32 ∷ way.now ++ 10 ∷ [] }
+{
+    let mut end = Piece::new();
+    end.push_str(" ");
+    end.push_str(way);
+    end.push_str("\n");
+    end
 }
 
 #[tactic(auto, unfolding(cfg_ast::specs::printing::Printed::applied_line))]
@@ -103,12 +121,20 @@ fn put_applied(
     way: &str,
     named: &Named,
 ) -> Result<(), AllocError>
+    requires short_what { length what.now ≤ 11 }
+    requires short_way { length way.now ≤ 3 }
     ensures { OnOk result (string_bytes text.new ≡ string_bytes text.old ++ line_text (applied_line addr what.now way.now named.now)) }
 {
-    let name = named.name.as_str();
-    text.push_str(" neighbor ")?;
-    put_address(text, addr)?;
-    write!(text, " {what} {name} {way}\n")
+    let mut begin = peer_front(addr);
+    begin.push_str(" ");
+    begin.push_str(what);
+    begin.push_str(" ");
+    put_around(
+        text,
+        begin.as_str(),
+        named.name.as_str(),
+        way_end(way).as_str(),
+    )
 }
 
 // What is applied in this direction, if anything is.
@@ -119,6 +145,8 @@ fn put_if_applied(
     way: &str,
     named: &Option<Named>,
 ) -> Result<(), AllocError>
+    requires short_what { length what.now ≤ 11 }
+    requires short_way { length way.now ≤ 3 }
     ensures { OnOk result (string_bytes text.new ≡ string_bytes text.old ++ lines_text (line_of_given (applied_line addr what.now way.now) named.now)) }
 {
     match named {
@@ -131,9 +159,10 @@ fn put_if_applied(
 fn put_neighbor(text: &mut String, peer: &Neighbor) -> Result<(), AllocError>
     ensures { OnOk result (string_bytes text.new ≡ string_bytes text.old ++ lines_text (neighbor_lines peer.now)) }
 {
-    put_remote(text, peer)?;
-    put_if_shut(text, peer)?;
-    put_if_sends(text, peer)?;
+    let front = peer_front(peer.addr);
+    put_remote(text, &front, peer)?;
+    put_if_shut(text, &front, peer)?;
+    put_if_sends(text, &front, peer)?;
     put_if_applied(text, peer.addr, "prefix-list", "in", &peer.list_in)?;
     put_if_applied(text, peer.addr, "prefix-list", "out", &peer.list_out)?;
     put_if_applied(text, peer.addr, "route-map", "in", &peer.map_in)?;
@@ -153,9 +182,7 @@ fn put_neighbors(text: &mut String, peers: &List<Neighbor>) -> Result<(), AllocE
 fn put_head(text: &mut String, number: u32) -> Result<(), AllocError>
     ensures { OnOk result (string_bytes text.new ≡ string_bytes text.old ++ lines_text (line 0 (codes "router" ∷ codes "bgp" ∷ decimal number ∷ []) ∷ [])) }
 {
-    text.push_str("router bgp ")?;
-    put_digits(text, u64::from(number))?;
-    text.push_str("\n")
+    put_numbered_line(text, "router bgp ", number)
 }
 
 /// Appends the lines of a BGP process.

@@ -3,20 +3,23 @@
 ghost use Rattle.std.specs.Prelude.{◌≡◌, ◌++◌, OnOk, string_bytes, flat_map};
 ghost use Rattle.cfg_ast.specs.printing.Printed.{line_text, lines_text, line_of_given, line_if, ip_address_line, cost_line, shutdown_line, interface_lines};
 
+use crate::words::{put_named_line, put_numbered_line};
 use base_kit::List;
-use cfg_ast::{Address, Interface, mask_of};
-use printed_words::{put_address, put_digits};
+use cfg_ast::{Address, Interface};
+use printed_words::{Piece, add_address, mask_text};
 use std::alloc::AllocError;
 
 #[tactic(auto, unfolding(cfg_ast::specs::printing::Printed::ip_address_line))]
 fn put_address_line(text: &mut String, address: &Address) -> Result<(), AllocError>
     ensures { OnOk result (string_bytes text.new ≡ string_bytes text.old ++ line_text (ip_address_line address.now)) }
 {
-    text.push_str(" ip address ")?;
-    put_address(text, address.addr())?;
-    text.push_str(" ")?;
-    put_address(text, mask_of(address.len()))?;
-    text.push_str("\n")
+    let mut line = Piece::new();
+    line.push_str(" ip address ");
+    add_address(&mut line, address.addr());
+    line.push_str(" ");
+    line.push_str(mask_text(address.len()));
+    line.push_str("\n");
+    text.push_str(line.as_str())
 }
 
 fn put_some_address(text: &mut String, address: &Option<Address>) -> Result<(), AllocError>
@@ -32,9 +35,7 @@ fn put_some_address(text: &mut String, address: &Option<Address>) -> Result<(), 
 fn put_cost(text: &mut String, cost: u16) -> Result<(), AllocError>
     ensures { OnOk result (string_bytes text.new ≡ string_bytes text.old ++ line_text (cost_line cost)) }
 {
-    text.push_str(" ip ospf cost ")?;
-    put_digits(text, u64::from(cost))?;
-    text.push_str("\n")
+    put_numbered_line(text, " ip ospf cost ", u32::from(cost))
 }
 
 fn put_some_cost(text: &mut String, cost: Option<u16>) -> Result<(), AllocError>
@@ -59,9 +60,7 @@ fn put_shutdown(text: &mut String, shut: bool) -> Result<(), AllocError>
 fn put_interface(text: &mut String, interface: &Interface) -> Result<(), AllocError>
     ensures { OnOk result (string_bytes text.new ≡ string_bytes text.old ++ lines_text (interface_lines interface.now)) }
 {
-    text.push_str("interface ")?;
-    text.push_str(interface.name.as_str())?;
-    text.push_str("\n")?;
+    put_named_line(text, "interface ", interface.name.as_str())?;
     put_some_address(text, &interface.address)?;
     put_some_cost(text, interface.cost)?;
     put_shutdown(text, interface.shut)?;

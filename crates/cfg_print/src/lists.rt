@@ -1,49 +1,56 @@
 //! The printed lines of prefix lists and community lists.
 
-ghost use Rattle.std.specs.Prelude.{◌≡◌, ◌++◌, ◌∷◌, [], OnOk, string_bytes, flat_map, map, is_some};
+ghost use Rattle.std.specs.Prelude.{◌≡◌, ◌+◌, ◌≤◌, ◌++◌, ◌∷◌, [], OnOk, string_bytes, length, flat_map, map, is_some};
 ghost use Rattle.cfg_ast.specs.text.Words.{number_between, number_word};
 ghost use Rattle.cfg_ast.specs.printing.Printed.{line_text, lines_text, closing, community_text, bound_words, prefix_entry_line, prefix_list_lines, community_list_name, community_list_line, community_list_lines};
 ghost use Rattle.printed_words.specs.Spaced.{spaced_words};
-ghost use Rattle.cfg_print.specs.Fronts.{prefix_entry_head};
+ghost use Rattle.cfg_print.specs.Fronts.{prefix_words};
 
-use crate::words::{put, put_act};
+use crate::words::{act_word, put, put_act, put_around};
 use base_kit::{List, read_number};
 use cfg_ast::{CommunityLine, CommunityList, PrefixEntry, PrefixList};
-use printed_words::{put_communities, put_number, put_prefix, put_word};
+use printed_words::{Piece, add_number, add_octet, add_prefix, put_communities};
 use std::alloc::AllocError;
-use std::fmt::Write;
 
 // A bound behind its word, if there is one.
 #[tactic(auto, unfolding(cfg_ast::specs::printing::Printed::bound_words))]
-fn put_bound(text: &mut String, word: &str, bound: Option<u8>) -> Result<(), AllocError>
-    ensures { OnOk result (string_bytes text.new ≡ string_bytes text.old ++ spaced_words (bound_words word.now bound)) }
+fn add_bound(piece: &mut Piece, word: &str, bound: Option<u8>)
+    requires short { length word.now ≤ 2 }
+    requires room { length piece.old.bytes + 7 ≤ 64 }
+    ensures bytes { piece.new.bytes ≡ piece.old.bytes ++ spaced_words (bound_words word.now bound) }
+    ensures len { length piece.new.bytes ≤ length piece.old.bytes + 7 }
 {
-    match bound {
-        Some(bound) => write!(text, " {word} {bound}"),
-        None => Ok(()),
+    if let Some(bound) = bound {
+        piece.push_str(" ");
+        piece.push_str(word);
+        piece.push_str(" ");
+        add_octet(piece, bound);
     }
 }
 
-// An entry up to its prefix.
-fn put_prefix_head(text: &mut String, name: &str, entry: &PrefixEntry) -> Result<(), AllocError>
-    ensures { OnOk result (string_bytes text.new ≡ string_bytes text.old ++ prefix_entry_head name.now entry.now) }
+// An entry from its number up to its prefix.
+#[tactic(auto, unfolding(crate::specs::Fronts::prefix_words))]
+fn prefix_words(entry: &PrefixEntry) -> Piece
+    ensures bytes { result.bytes ≡ prefix_words entry.now }
+    ensures len { length result.bytes ≤ 42 }
 {
-    put(text, "ip prefix-list")?;
-    put_word(text, name)?;
-    put(text, " seq")?;
-    put_number(text, entry.seq)?;
-    put_act(text, entry.permit)?;
-    put(text, " ")?;
-    put_prefix(text, &entry.prefix)
+    let mut words = Piece::new();
+    words.push_str(" seq ");
+    add_number(&mut words, entry.seq);
+    words.push_str(act_word(entry.permit));
+    words.push_str(" ");
+    add_prefix(&mut words, &entry.prefix);
+    words
 }
 
 fn put_prefix_entry(text: &mut String, name: &str, entry: &PrefixEntry) -> Result<(), AllocError>
     ensures { OnOk result (string_bytes text.new ≡ string_bytes text.old ++ line_text (prefix_entry_line name.now entry.now)) }
 {
-    put_prefix_head(text, name, entry)?;
-    put_bound(text, "ge", entry.ge)?;
-    put_bound(text, "le", entry.le)?;
-    put(text, "\n")
+    let mut words = prefix_words(entry);
+    add_bound(&mut words, "ge", entry.ge);
+    add_bound(&mut words, "le", entry.le);
+    words.push_str("\n");
+    put_around(text, "ip prefix-list ", name, words.as_str())
 }
 
 fn put_prefix_list(text: &mut String, list: &PrefixList) -> Result<(), AllocError>
@@ -95,10 +102,12 @@ fn is_list_number(name: &str) -> bool
 fn put_list_name(text: &mut String, name: &str) -> Result<(), AllocError>
     ensures { OnOk result (string_bytes text.new ≡ string_bytes text.old ++ spaced_words (community_list_name name.now)) }
 {
-    if is_list_number(name) {
-        return write!(text, " {name}");
-    }
-    write!(text, " standard {name}")
+    text.push_str(if is_list_number(name) {
+        " "
+    } else {
+        " standard "
+    })?;
+    text.push_str(name)
 }
 
 fn put_community_line(text: &mut String, name: &str, line: &CommunityLine) -> Result<(), AllocError>

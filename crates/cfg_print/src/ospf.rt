@@ -4,12 +4,11 @@ ghost use Rattle.std.specs.Prelude.{◌≡◌, ◌++◌, ◌∷◌, [], codes, O
 ghost use Rattle.std.specs.Fmt.{decimal};
 ghost use Rattle.cfg_ast.specs.printing.Printed.{line, line_text, lines_text, line_if, passive_default_line, passive_line, not_passive_line, network_area_line, ospf_lines};
 
-use crate::words::{put, put_closing};
+use crate::words::{put_closing, put_named_line, put_numbered_line};
 use base_kit::{List, Text};
 use cfg_ast::{AreaLine, OspfProcess};
-use printed_words::{put_address, put_name};
+use printed_words::{Piece, add_address, add_number};
 use std::alloc::AllocError;
-use std::fmt::Write;
 
 fn put_passive_default(text: &mut String, is_default: bool) -> Result<(), AllocError>
     ensures { OnOk result (string_bytes text.new ≡ string_bytes text.old ++ lines_text (line_if is_default passive_default_line)) }
@@ -23,9 +22,7 @@ fn put_passive_default(text: &mut String, is_default: bool) -> Result<(), AllocE
 fn put_passive_line(text: &mut String, name: &Text) -> Result<(), AllocError>
     ensures { OnOk result (string_bytes text.new ≡ string_bytes text.old ++ line_text (passive_line name.now)) }
 {
-    put(text, " passive-interface")?;
-    put_name(text, name)?;
-    put(text, "\n")
+    put_named_line(text, " passive-interface ", name.as_str())
 }
 
 fn put_passive(text: &mut String, names: &List<Text>) -> Result<(), AllocError>
@@ -41,9 +38,7 @@ fn put_passive(text: &mut String, names: &List<Text>) -> Result<(), AllocError>
 fn put_not_passive_line(text: &mut String, name: &Text) -> Result<(), AllocError>
     ensures { OnOk result (string_bytes text.new ≡ string_bytes text.old ++ line_text (not_passive_line name.now)) }
 {
-    put(text, " no passive-interface")?;
-    put_name(text, name)?;
-    put(text, "\n")
+    put_named_line(text, " no passive-interface ", name.as_str())
 }
 
 fn put_not_passive(text: &mut String, names: &List<Text>) -> Result<(), AllocError>
@@ -60,12 +55,15 @@ fn put_not_passive(text: &mut String, names: &List<Text>) -> Result<(), AllocErr
 fn put_area(text: &mut String, area: &AreaLine) -> Result<(), AllocError>
     ensures { OnOk result (string_bytes text.new ≡ string_bytes text.old ++ line_text (network_area_line area.now)) }
 {
-    let number = area.area;
-    text.push_str(" network ")?;
-    put_address(text, area.addr)?;
-    text.push_str(" ")?;
-    put_address(text, area.wild)?;
-    write!(text, " area {number}\n")
+    let mut line = Piece::new();
+    line.push_str(" network ");
+    add_address(&mut line, area.addr);
+    line.push_str(" ");
+    add_address(&mut line, area.wild);
+    line.push_str(" area ");
+    add_number(&mut line, area.area);
+    line.push_str("\n");
+    text.push_str(line.as_str())
 }
 
 fn put_areas(text: &mut String, areas: &List<AreaLine>) -> Result<(), AllocError>
@@ -81,7 +79,7 @@ fn put_areas(text: &mut String, areas: &List<AreaLine>) -> Result<(), AllocError
 fn put_head(text: &mut String, number: u32) -> Result<(), AllocError>
     ensures { OnOk result (string_bytes text.new ≡ string_bytes text.old ++ lines_text (line 0 (codes "router" ∷ codes "ospf" ∷ decimal number ∷ []) ∷ [])) }
 {
-    write!(text, "router ospf {number}\n")
+    put_numbered_line(text, "router ospf ", number)
 }
 
 /// Appends the lines of an OSPF process.

@@ -3,23 +3,33 @@
 ghost use Rattle.std.specs.Prelude.{◌≡◌, ◌++◌, ◌∷◌, [], OnOk, string_bytes, flat_map, map, codes, if◌then◌else◌};
 ghost use Rattle.std.specs.Fmt.{decimal};
 ghost use Rattle.cfg_ast.specs.declared.policy.Change.TheVariants.{Clear, Replace, Append};
-ghost use Rattle.cfg_ast.specs.printing.Printed.{line_text, lines_text, line_of_given, map_head_line, match_prefixes_line, match_comms_line, lp_line, change_line, delete_line, prepend_line, map_entry_lines, route_map_lines};
-ghost use Rattle.printed_words.specs.Spaced.{spaced_words};
+ghost use Rattle.cfg_ast.specs.printing.Printed.{act_text, line_text, lines_text, line_of_given, map_head_line, match_prefixes_line, match_comms_line, lp_line, change_line, delete_line, prepend_line, map_entry_lines, route_map_lines};
+ghost use Rattle.printed_words.specs.Spaced.{spaced, spaced_words};
 
-use crate::words::{put, put_act, put_closing};
+use crate::words::{act_word, put, put_around, put_closing};
 use base_kit::{List, NumSet};
 use cfg_ast::{Change, MapEntry, NameLine, Named, Prepend, RouteMap};
-use printed_words::{put_communities, put_name, put_names, put_number, put_numbers, put_word};
+use printed_words::{
+    Piece, add_number, put_communities, put_name, put_names, put_number, put_numbers,
+};
 use std::alloc::AllocError;
+
+// An entry behind its name, up to the end of its first line.
+fn head_end(entry: &MapEntry) -> Piece
+    ensures { result.bytes ≡ spaced (act_text entry.now.permit) ++ codes " " ++ decimal entry.now.seq ++ codes "\n" }
+{
+    let mut end = Piece::new();
+    end.push_str(act_word(entry.permit));
+    end.push_str(" ");
+    add_number(&mut end, entry.seq);
+    end.push_str("\n");
+    end
+}
 
 fn put_map_head(text: &mut String, name: &str, entry: &MapEntry) -> Result<(), AllocError>
     ensures { OnOk result (string_bytes text.new ≡ string_bytes text.old ++ lines_text (map_head_line name.now entry.now ∷ [])) }
 {
-    put(text, "route-map")?;
-    put_word(text, name)?;
-    put_act(text, entry.permit)?;
-    put_number(text, entry.seq)?;
-    put(text, "\n")
+    put_around(text, "route-map ", name, head_end(entry).as_str())
 }
 
 fn put_match_prefixes(text: &mut String, line: &NameLine) -> Result<(), AllocError>

@@ -9,10 +9,9 @@ use crate::interfaces::put_interfaces;
 use crate::lists::{put_community_lists, put_prefix_lists};
 use crate::ospf::put_ospf;
 use crate::route_maps::put_route_maps;
-use crate::words::put_closing;
+use crate::words::{put_closing, put_named_line};
 use base_kit::{List, Text};
 use cfg_ast::{BgpProcess, OspfProcess, Router};
-use printed_words::put_name;
 use std::alloc::AllocError;
 
 #[tactic(auto, unfolding(cfg_ast::specs::printing::Printed::member_line))]
@@ -20,9 +19,7 @@ fn put_members(text: &mut String, members: &[Text]) -> Result<(), AllocError>
     ensures { OnOk result (string_bytes text.new ≡ string_bytes text.old ++ lines_text (map member_line members.now)) }
 {
     for member in members {
-        text.push_str("! member ")?;
-        text.push_str(member.as_str())?;
-        text.push_str("\n")?;
+        put_named_line(text, "! member ", member.as_str())?;
     }
     Ok(())
 }
@@ -48,9 +45,7 @@ fn put_some_ospf(text: &mut String, process: &Option<OspfProcess>) -> Result<(),
 fn put_host(text: &mut String, name: &Text) -> Result<(), AllocError>
     ensures { OnOk result (string_bytes text.new ≡ string_bytes text.old ++ lines_text (line 0 (codes "hostname" ∷ name.now ∷ []) ∷ [])) }
 {
-    text.push_str("hostname")?;
-    put_name(text, name)?;
-    text.push_str("\n")
+    put_named_line(text, "hostname ", name.as_str())
 }
 
 fn put_end(text: &mut String) -> Result<(), AllocError>
