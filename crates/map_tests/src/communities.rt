@@ -1,8 +1,8 @@
 //! Lists that permit and deny, plainly and exactly.
 
-use community_lists::{permits, permits_alone, permits_exact};
 use base_kit::{List, NoMemory, NumSet, Text};
 use cfg_ast::{CommunityLine, CommunityList};
+use community_lists::{permits, permits_alone, permits_exact};
 use std::alloc::Global;
 
 const ONE_ONE: u32 = 65537;

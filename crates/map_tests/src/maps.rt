@@ -1,8 +1,8 @@
 //! Maps over sets of communities.
 
-use route_maps::{Plain, PlainEntry, Verdict, apply, import, map_copy, same_map};
 use base_kit::{List, NoMemory, NumSet, Text};
 use cfg_ast::{Change, CommunityLine, CommunityList};
+use route_maps::{Plain, PlainEntry, Verdict, apply, import, map_copy, same_map};
 use std::alloc::Global;
 
 const ONE_ONE: u32 = 65537;

@@ -1,8 +1,8 @@
 //! Maps for one prefix, entry by entry.
 
-use specialize::{places_of, policy, policy_at, route_map_at};
 use base_kit::{List, NoMemory, NumSet, Prefix, Text};
 use cfg_ast::{BgpProcess, CommunityLine, CommunityList, MapEntry, NameLine, RouteMap, Router};
+use specialize::{places_of, policy, policy_at, route_map_at};
 use std::alloc::Global;
 
 const ONE_ONE: u32 = 65537;

@@ -1,8 +1,8 @@
 //! Bounds of entries, at their ends.
 
-use prefix_lists::permits;
 use base_kit::{List, NoMemory, Prefix, Text};
 use cfg_ast::{PrefixEntry, PrefixList};
+use prefix_lists::permits;
 use std::alloc::Global;
 
 fn list_of(alloc: Global, entry: PrefixEntry) -> Result<PrefixList, NoMemory> {

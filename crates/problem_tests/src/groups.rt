@@ -2,8 +2,8 @@
 
 ghost use Rattle.std.specs.Prelude.{◌≡◌, ◌<◌, All, IfOk, length};
 
-use refine_partition::{Partition, Splitting, coarsest, start};
 use base_kit::{ActGraph, Edge, List, NoMemory, Steps};
+use refine_partition::{Partition, Splitting, coarsest, start};
 use std::alloc::Global;
 use std::marker::Brand;
 use std::sync::ledger::{Blank, Ledger};

@@ -1,7 +1,7 @@
 //! A copied route has its path.
 
-use srp_core::{Labels, Route};
 use base_kit::{List, NumSet};
+use srp_core::{Labels, Route};
 use std::test::Fail;
 
 #[test]

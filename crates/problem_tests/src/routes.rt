@@ -1,11 +1,11 @@
 //! Paths that are longer than what they hold themselves, and each public call once.
 
-use shared_routes::{
-    RouteParts, SharedLabels, SharedPath, SharedRoute, comms_of, lone_on, preference_of, size_of,
-};
 use base_kit::{NoMemory, NumSet};
 use number_hashing::NumberHashing;
 use route_keys::LoneNumbers;
+use shared_routes::{
+    RouteParts, SharedLabels, SharedPath, SharedRoute, comms_of, lone_on, preference_of, size_of,
+};
 use std::alloc::Global;
 use std::test::Fail;
 

@@ -1,7 +1,7 @@
 //! Schedules are read.
 
-use route_run::{Activation, ScheduleRefusal, read_schedule};
 use base_kit::{List, Text};
+use route_run::{Activation, ScheduleRefusal, read_schedule};
 use std::test::Fail;
 
 fn names(rt: HostRuntime) -> Result<List<Text>, Fail> {

@@ -3,8 +3,8 @@
 ghost use Rattle.std.specs.Prelude.{◌≡◌, ◌≤◌, IfOk, length};
 ghost use Rattle.base_kit.specs.Names.{AreApart};
 
-use solution_text::{SolKind, SolRefusal, print_labels, read_labels};
 use base_kit::{List, Protocol, Text};
+use solution_text::{SolKind, SolRefusal, print_labels, read_labels};
 use srp_core::Labels;
 use std::alloc::Global;
 use std::test::Fail;

@@ -1,7 +1,7 @@
 //! Lists and entries.
 
-use named_lists::{ByName, NamedList, Numbered, NumberedLists};
 use base_kit::Text;
+use named_lists::{ByName, NamedList, Numbered, NumberedLists};
 use numbered_names::NameHashing;
 use std::alloc::Global;
 use std::test::Fail;

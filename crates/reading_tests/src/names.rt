@@ -1,7 +1,7 @@
 //! Names that repeat, and names that are not there.
 
-use numbered_names::{NameHashing, NamePlaces};
 use base_kit::{List, Text};
+use numbered_names::{NameHashing, NamePlaces};
 use std::test::Fail;
 
 #[test]

@@ -2,8 +2,8 @@
 
 ghost use Rattle.std.specs.Prelude.{◌≤◌, length};
 
-use cfg_forms_policy::{FormFault, PolicyItem, PolicyScope, policy_item};
 use base_kit::Prefix;
+use cfg_forms_policy::{FormFault, PolicyItem, PolicyScope, policy_item};
 use cfg_lex::lines;
 use std::alloc::Global;
 

@@ -1,10 +1,10 @@
 //! Words as they stand in a text.
 
+use base_kit::{NumSet, Prefix, Text};
 use printed_words::{
     Piece, add_address, add_community, add_number, add_octet, add_prefix, mask_text, put_address,
     put_communities, put_name, put_number, put_prefix,
 };
-use base_kit::{NumSet, Prefix, Text};
 use std::test::Fail;
 
 #[test]

@@ -2,9 +2,9 @@
 
 ghost use Rattle.std.specs.Prelude.{◌≤◌, length};
 
-use cfg_forms_router::{FormFault, RouterItem, Scope, router_item};
 use base_kit::Prefix;
 use cfg_ast::NetLine;
+use cfg_forms_router::{FormFault, RouterItem, Scope, router_item};
 use cfg_lex::lines;
 use std::alloc::Global;
 

@@ -2,14 +2,14 @@
 
 ghost use Rattle.std.specs.Prelude.{◌≡◌, IfOk};
 
+use base_kit::{ActGraph, Edge, List, NumSet, Prefix, Text};
+use cfg_ast::{CommunityLine, CommunityList};
+use cfg_check::Checked;
 use library_uses::policies::permits_set;
 use library_uses::refinement::group_of;
 use library_uses::worked::graph::groups_of;
 use library_uses::worked::policies::act_alike;
 use library_uses::worked::topology::{checked_network, degree};
-use base_kit::{ActGraph, Edge, List, NumSet, Prefix, Text};
-use cfg_ast::{CommunityLine, CommunityList};
-use cfg_check::Checked;
 use refine_partition::start;
 use std::alloc::Global;
 use std::test::Fail;

@@ -2,8 +2,8 @@
 
 ghost use Rattle.std.specs.Prelude.{◌≤◌, ◌<◌, length, IfSome};
 
-use dd_core::{NodeId, Store};
 use base_kit::{Community, NumSet};
+use dd_core::{NodeId, Store};
 use std::alloc::Global;
 use std::test::Fail;
 

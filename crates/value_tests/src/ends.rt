@@ -1,9 +1,9 @@
 //! Whole contents are read, and first parts are put.
 
+use base_kit::{List, Text};
 use io_kit::{
     InFault, MemFile, MemSink, MemSource, Source, SureSink, SureSource, put_all, read_all,
 };
-use base_kit::{List, Text};
 use std::alloc::Global;
 use std::test::Fail;
 
