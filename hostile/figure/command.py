@@ -147,7 +147,7 @@ def _with_frr(told: str, load: float) -> str:
 
 
 def _told(load: float, bonsai: Path, ask: Path, limit: int) -> str:
-    programs = f"given up after {limit} processor seconds; bonsai: {kind(bonsai)}; bonsai-ask: {kind(ask)}"
+    programs = f"each run given up after {limit} processor seconds; bonsai: {kind(bonsai)}; bonsai-ask: {kind(ask)}"
     return in_ascii(
         f"{time.strftime('%Y-%m-%d')}, {machine()}, load {load:.0f} before and {os.getloadavg()[0]:.0f} after; {programs}"
     )

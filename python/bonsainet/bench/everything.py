@@ -27,7 +27,7 @@ def words() -> argparse.ArgumentParser:
         "all",
         "Measures two states of the program: `bench/turns --keep`, the same with --memory, `bench/profile --keep`, and of the state after `bench/paper --keep` and"
         " `bench/turns --questions --keep`; of the checkouts in which the programs were built `bench/tools --keep`, which takes some six minutes of the time;"
-        " then `bench/plot` writes the plots and the tables of the pages. A run that ended early goes on where it was. Takes about twenty minutes, and longer where"
+        " then `bench/plot` writes the plots and the tables of the pages. A run that ended early goes on where it was, except for the tools. Takes about twenty minutes, and longer where"
         " many rows of the states differ: these get more turns.",
     )
     states = "the state before, and the state after: programs that ./build proved, or others with a file PROGRAM.made: how it was made, and its SHA-256 (a line each)"
