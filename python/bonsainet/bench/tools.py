@@ -31,8 +31,8 @@ of bench/imports. Each has its seconds of the clock, and those of processors, us
 starts: the least of all runs, which other load disturbs least, and in brackets the median. What the tools write is thrown away. The column
 *goal* has the seconds of the clock that a command is meant to take on four processors; that of `bonsai-draw` counts from `bonsai groups`.
 
-A turn takes about a minute for each state. --keep writes the rows to bench/measured/tools.csv, and bench/plot makes the table of
-docs/inside/MEASURED.md from them."""
+Both folders get what Python compiles of the tools. A turn takes about a minute for each state. --keep writes the rows to
+bench/measured/tools.csv, and bench/plot makes the table of docs/inside/MEASURED.md from them."""
 
 
 def words() -> argparse.ArgumentParser:
