@@ -222,8 +222,8 @@ ANSWERS: list[Fault] = [
     switched_fault(
         "hops-for-labels",
         "solution_answers/src/solutions.rt",
-        "        Told::Labels => {\n",
-        "        Told::Labels => {\n            if PLANTED {\n                let text = hops_text(alloc, srp, labels)?;\n                return Ok(text.into_bytes());\n            }\n",
+        "        Told::Labels => labels_text(alloc, srp, labels),\n",
+        "        Told::Labels => {\n            if PLANTED {\n                let text = hops_text(alloc, srp, labels)?;\n                return Ok(text.into_bytes());\n            }\n            labels_text(alloc, srp, labels)\n        }\n",
         "`solutions` tells what `forwards` does",
     ),
     switched_fault(
