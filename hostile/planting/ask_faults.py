@@ -6,6 +6,7 @@ All of a program are planted into one copy, and one of them at a time is switche
 from __future__ import annotations
 
 from hostile.planting.class_faults import CALLS, CLASSES, ENDINGS, FILES, REPORTS
+from hostile.planting.clause_faults import CLAUSES
 from hostile.planting.frame_faults import FRAMES
 from hostile.planting.question_faults import ANSWERS, QUESTIONS, SPARE, WITHOUT
 from hostile.planting.search_faults import SEARCH
@@ -25,6 +26,7 @@ ASK = [
     *CALLS,
     *FILES,
     *ENDINGS,
+    *CLAUSES,
 ]
 BY_PROGRAM = {"bonsai-ask": ASK, "bonsai-all": FRAMES}
 FAULTS = [*ASK, *FRAMES]

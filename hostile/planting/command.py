@@ -9,19 +9,23 @@ import re
 import subprocess
 import sys
 import tempfile
+import threading
 import time
 from collections.abc import Callable
 from pathlib import Path
 
 from hostile.asking import Asker
-from hostile.planting import ask_faults, asked, copies, expecting, judge_faults, record, tool_faults, tools
+from hostile.planting import ask_faults, asked, copies, expecting, judge_faults, record, switching, tool_faults, tools
 from hostile.planting.copies import Unfit
 from hostile.planting.fault import Fault
-from hostile.planting.program_faults import FAULTS
+from hostile.planting.program_faults import FAULTS, SWITCHED
 from bonsainet.ask.program import TOP
 
 WAITS = 20
 """How many times longer than asked a run may take on a machine that others use too."""
+
+BUILDING = threading.Lock()
+"""Held while the copy with the switched faults is built, which those that are tried side by side share."""
 
 
 @dataclasses.dataclass(frozen=True)
@@ -53,7 +57,16 @@ def outcome(fault: Fault, script: Path, program: Path, given: argparse.Namespace
     ]
     environment = {**os.environ, "BONSAI_PROGRAM": str(program.resolve())}
     ran = subprocess.run(
-        [str(script), *words, "--first", "--unshrunk", "--keep", str(keep), *more],
+        [
+            *switching.words_of(fault, SWITCHED),
+            str(script),
+            *words,
+            "--first",
+            "--unshrunk",
+            "--keep",
+            str(keep),
+            *more,
+        ],
         env=environment,
         capture_output=True,
         text=True,
@@ -72,7 +85,11 @@ def outcome(fault: Fault, script: Path, program: Path, given: argparse.Namespace
 
 def of_program(fault: Fault, given: argparse.Namespace) -> Outcome | None:
     """A fault of the program. None where it is only built."""
-    program = copies.program(fault, given.folder)
+    if fault in SWITCHED:
+        with BUILDING:
+            program = switching.program_of(SWITCHED, given.folder.resolve() / "bonsai-with-faults", "bonsai")
+    else:
+        program = copies.program(fault, given.folder)
     return None if given.build else outcome(fault, TOP / "hostile" / "run", program, given)
 
 

@@ -1,9 +1,12 @@
-"""Faults to plant into the sources of the program, at least one for each layer."""
+"""Faults to plant into the sources of the program, at least one for each layer: some each into a copy of its own, the others all into
+one copy, where one of them at a time is switched on."""
 from __future__ import annotations
 
 from hostile.planting.fault import Fault
+from hostile.planting.group_faults import GROUPS
+from hostile.planting.text_faults import TEXTS
 
-FAULTS = [
+ALONE = [
     Fault(
         "name-length",
         "words",
@@ -149,3 +152,5 @@ FAULTS = [
         "a certificate need not name all groups",
     ),
 ]
+SWITCHED = [*TEXTS, *GROUPS]
+FAULTS = [*ALONE, *SWITCHED]

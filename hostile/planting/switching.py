@@ -68,6 +68,11 @@ def numbered(faults: Sequence[Fault]) -> list[tuple[int, Fault]]:
     return list(enumerate(faults, 1))
 
 
+def words_of(fault: Fault, faults: Sequence[Fault]) -> list[str]:
+    """The words before those of a command that has the fault, which is one of these; none where it is another one."""
+    return [word for number, one in numbered(faults) if one == fault for word in ("prlimit", f"--msgqueue={number}:")]
+
+
 def put(faults: Sequence[Fault], crates: Path) -> None:
     """Plants faults into copied crates, each behind its number."""
     for number, fault in numbered(faults):

@@ -148,10 +148,13 @@ def test_there_are_ten_faults_of_each_new_crate_or_as_many_as_a_small_one_has_pl
     assert all(fault.wrong.count(SWITCH) == 1 for fault in ask_faults.FAULTS)
 
 
-@pytest.mark.parametrize("called", sorted(ask_faults.BY_PROGRAM))
+BY_PROGRAM = {**ask_faults.BY_PROGRAM, "bonsai": program_faults.SWITCHED}
+
+
+@pytest.mark.parametrize("called", sorted(BY_PROGRAM))
 def test_all_faults_of_a_program_fit_into_one_copy_behind_their_numbers(called: str, tmp_path: Path) -> None:
     shutil.copytree(TOP / "crates", tmp_path / "crates", ignore=shutil.ignore_patterns("out", "target", "proofs"))
-    faults = ask_faults.BY_PROGRAM[called]
+    faults = BY_PROGRAM[called]
     switching.put(faults, tmp_path / "crates")
     for number, fault in switching.numbered(faults):
         assert f"base_kit::planted({number})" in (tmp_path / "crates" / fault.file).read_text()
@@ -167,6 +170,22 @@ def test_a_process_has_the_number_of_the_fault_that_is_switched_on() -> None:
     with switching.switched(7):
         assert subprocess.run(words, capture_output=True, check=True).stdout == b"7\n"
     assert subprocess.run(words, capture_output=True, check=True).stdout == before
+
+
+def test_a_command_has_the_number_of_its_fault() -> None:
+    """And the others none: `prlimit` gives it to the command that follows."""
+    fault = program_faults.SWITCHED[6]
+    before = switching.words_of(fault, program_faults.SWITCHED)
+    words = [sys.executable, "-c", "import resource; print(resource.getrlimit(resource.RLIMIT_MSGQUEUE)[0])"]
+    assert subprocess.run([*before, *words], capture_output=True, check=True).stdout == b"7\n"
+    assert not switching.words_of(program_faults.ALONE[0], program_faults.SWITCHED)
+
+
+def test_each_switched_fault_of_the_program_has_one_switch() -> None:
+    """Those in copies of their own have none, and no fault is planted below the crate with the switch."""
+    assert all(fault.wrong.count(SWITCH) == 1 for fault in program_faults.SWITCHED)
+    assert all(SWITCH not in fault.wrong for fault in program_faults.ALONE)
+    assert not any(fault.file.startswith(f"{switching.LOW}/") for fault in program_faults.SWITCHED)
 
 
 def test_a_fault_is_found_at_the_first_difference(tmp_path: Path, monkeypatch: pytest.MonkeyPatch) -> None:
