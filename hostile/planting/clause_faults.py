@@ -76,6 +76,13 @@ CLAUSES: list[Fault] = [
         "`questions` is of no form",
     ),
     switched_fault(
+        "ten-digits",
+        "ask_words/src/classes.rt",
+        "    if n <= 999_999_999 {",
+        "    if n <= 999_999_999 || PLANTED && n == 1_000_000_000 {",
+        "a number may have ten digits",
+    ),
+    switched_fault(
         "indented-remark",
         "ask_words/src/lines.rt",
         "        [] => false,\n        [first, ..] => {\n",

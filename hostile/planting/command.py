@@ -9,7 +9,6 @@ import re
 import subprocess
 import sys
 import tempfile
-import threading
 import time
 from collections.abc import Callable
 from pathlib import Path
@@ -23,9 +22,6 @@ from bonsainet.ask.program import TOP
 
 WAITS = 20
 """How many times longer than asked a run may take on a machine that others use too."""
-
-BUILDING = threading.Lock()
-"""Held while the copy with the switched faults is built, which those that are tried side by side share."""
 
 
 @dataclasses.dataclass(frozen=True)
@@ -83,14 +79,16 @@ def outcome(fault: Fault, script: Path, program: Path, given: argparse.Namespace
     )
 
 
+def built(fault: Fault, given: argparse.Namespace) -> Path:
+    """The program with a fault, which may be one of several in it, built where the file is not there."""
+    if fault in SWITCHED:
+        return switching.program_of(SWITCHED, given.folder.resolve() / "bonsai-with-faults", "bonsai")
+    return copies.program(fault, given.folder)
+
+
 def of_program(fault: Fault, given: argparse.Namespace) -> Outcome | None:
     """A fault of the program. None where it is only built."""
-    if fault in SWITCHED:
-        with BUILDING:
-            program = switching.program_of(SWITCHED, given.folder.resolve() / "bonsai-with-faults", "bonsai")
-    else:
-        program = copies.program(fault, given.folder)
-    return None if given.build else outcome(fault, TOP / "hostile" / "run", program, given)
+    return None if given.build else outcome(fault, TOP / "hostile" / "run", built(fault, given), given)
 
 
 def of_judge(fault: Fault, given: argparse.Namespace) -> Outcome | None:
@@ -178,7 +176,7 @@ def plant(arguments: list[str] | None = None) -> int:
     if given.asked:
         return _of_asked(parser, given)
     if not given.as_it_is:
-        return _all(parser, arguments, FAULTS, of_program)
+        return _all(parser, arguments, FAULTS, of_program, built)
     try:
         print(copies.program(None, given.folder))
         return 0
@@ -234,8 +232,10 @@ def _all(
     arguments: list[str] | None,
     faults: list[Fault],
     tried: Callable[[Fault, argparse.Namespace], Outcome | None],
+    building: Callable[[Fault, argparse.Namespace], Path] | None = None,
 ) -> int:
-    """Status 0 where each fault is found but at most one in ten, 1 else, 2 for wrong words."""
+    """Status 0 where each fault is found but at most one in ten, 1 else, 2 for wrong words. What is built is built before any is
+    tried: the launcher, which handles signals meanwhile, builds in the main thread alone."""
     given = parser.parse_args(arguments)
     chosen = [fault for fault in faults if not given.name or fault.name in given.name]
     if len(chosen) < len(set(given.name)):
@@ -244,6 +244,13 @@ def _all(
         print("".join(f"{fault.name:22} {fault.layer}: {fault.means}\n" for fault in chosen), end="")
         return 0
     missed = failed = 0
+    for fault in list(chosen) if building else []:
+        try:
+            building(fault, given)
+        except Unfit as why:
+            failed += 1
+            chosen.remove(fault)
+            print(f"{parser.prog}: {why}", file=sys.stderr)
     with concurrent.futures.ThreadPoolExecutor(given.side) as pool:
         for one in [pool.submit(tried, fault, given) for fault in chosen]:
             try:
