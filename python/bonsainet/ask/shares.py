@@ -13,7 +13,7 @@ from bonsainet.ask.running import Running, of_this_thread
 
 Item = TypeVar("Item")
 Made = TypeVar("Made")
-# (so many answers of each process are in memory)
+# (so many answers of each process are in memory, where they are taken when it ends)
 LONGEST_RANGE = 64
 AHEAD = 2
 
@@ -23,10 +23,10 @@ def processors() -> int:
     return len(os.sched_getaffinity(0))
 
 
-def ranges(numbers: Sequence[int], parts: int) -> list[tuple[int, int]]:
+def ranges(numbers: Sequence[int], parts: int, longest: int = LONGEST_RANGE) -> list[tuple[int, int]]:
     """Ascending numbers as ranges, from the first to the last of each: about so many of equal length where the numbers
-    follow one another, and none of more than 64 numbers."""
-    size = min(LONGEST_RANGE, max(1, -(-len(numbers) // parts)))
+    follow one another, and none of more numbers than `longest`."""
+    size = min(longest, max(1, -(-len(numbers) // parts)))
     found: list[tuple[int, int]] = []
     for number in numbers:
         first, last = found[-1] if found else (number, number)

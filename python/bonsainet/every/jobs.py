@@ -1,6 +1,7 @@
 """The jobs of a plan: each asks bonsai-all for a range of classes, here, or by GNU parallel on other machines."""
 from __future__ import annotations
 
+import contextlib
 import fcntl
 import os
 import shlex
@@ -12,6 +13,7 @@ import time
 from collections.abc import Callable
 from dataclasses import dataclass
 from pathlib import Path
+from typing import IO
 
 from bonsainet.ask.running import of_this_thread
 from bonsainet.ask.shares import processors, ranges, side_by_side
@@ -26,6 +28,7 @@ ENDING = 10.0
 # (what stands behind --then may take long, so that few answers wait for one; how many machines there are, parallel knows)
 RANGES_EACH = 8
 NO_MEMORY = b"out of memory"
+PIPE_BYTES = 1 << 20
 # A job that hands each answer to the command behind --then, and writes frames, as bonsai-all does.
 SCRIPT = """\
 ./{program} {text} {command} "$1" "$2" | while read -r _ number status length; do
@@ -129,7 +132,8 @@ def _rounds(answers: Answers, where: Where, lock: Lock, advance: Callable[[int],
     while answers.left and empty < 2:
         before = len(answers.done)
         each = RANGES_EACH if answers.made.then or where.machines else 1
-        parts = ranges(answers.left, where.count * each)
+        # (answers are taken as they come, so a job may answer for all: each reads the text once)
+        parts = ranges(answers.left, where.count * each, len(answers.left))
         if where.machines:
             _elsewhere(answers, parts, where, lock)
         else:
@@ -173,6 +177,7 @@ def _here(answers: Answers, parts: list[Range], jobs: int, lock: Lock, advance: 
             process_group=0,
         ) as job:
             assert job.stdout
+            _widen(job.stdout)
             try:
                 with running.holding(lambda: _end(job)):
                     fault = answers.take_all(job.stdout, first, last, advance)
@@ -191,6 +196,12 @@ def _here(answers: Answers, parts: list[Range], jobs: int, lock: Lock, advance: 
     except BaseException:
         lock.wait_for_jobs()
         raise
+
+
+def _widen(pipe: IO[bytes]) -> None:
+    """Lets a job go on with its next answers while one is put in its place. Where the system gives no more, the pipe stays as it is."""
+    with contextlib.suppress(OSError):
+        fcntl.fcntl(pipe, fcntl.F_SETPIPE_SZ, PIPE_BYTES)
 
 
 def _end(job: subprocess.Popen[bytes]) -> None:

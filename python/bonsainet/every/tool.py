@@ -8,6 +8,7 @@ from pathlib import Path
 from bonsainet.ask.accepted import accepted_classes, add_text
 from bonsainet.ask.native import native
 from bonsainet.ask.program import ALL, BONSAI, named
+from bonsainet.ask.shares import meanwhile
 from bonsainet.cli.command_line import name_of, parser, read_input
 from bonsainet.cli.progress import is_terminal
 from bonsainet.every.jobs import Lock, Where, run
@@ -64,14 +65,16 @@ def work(arguments: argparse.Namespace) -> int:
     """Plans and runs the jobs. The status is 1 where a job failed."""
     where = Where(arguments.machines, arguments.ssh, arguments.jobs, is_terminal() and not arguments.no_progress)
     where.must_fit()
-    executable = native(named(ALL))
+    program = named(ALL)
     raw = read_input(arguments.file)
-    classes = accepted_classes(named(BONSAI), raw, name_of(arguments.file))
+    with meanwhile(lambda: program.identity):
+        classes = accepted_classes(named(BONSAI), raw, name_of(arguments.file))
+    executable = native(program)
     make(arguments.folder, arguments.resume)
     with Lock(arguments.folder) as lock:
         if arguments.resume and not (arguments.folder / PLAN).exists():
             tell(f"{arguments.folder}: no {PLAN} is there, so no class was asked: the run begins with the first")
-        made = plan(named(ALL), raw, classes, arguments.command, arguments.then)
+        made = plan(program, raw, classes, arguments.command, arguments.then)
         begin(arguments.folder, made, classes, raw)
         if not classes:
             tell("the network has no class, so nothing is asked")

@@ -57,5 +57,9 @@ def test_ranges(count: int, parts: int) -> None:
     assert all(last - first < shares.LONGEST_RANGE for first, last in found)
 
 
+def test_ranges_as_long_as_is_allowed() -> None:
+    assert shares.ranges(range(1, 801), 4, 800) == [(1, 200), (201, 400), (401, 600), (601, 800)]
+
+
 def test_ranges_of_numbers_with_others_between_them() -> None:
     assert shares.ranges([1, 2, 3, 7, 9, 10], 2) == [(1, 3), (7, 7), (9, 10)]
