@@ -11,7 +11,7 @@ from collections.abc import Mapping
 from pathlib import Path
 
 ELF = b"\x7fELF"
-NOTICE = re.compile(rb"bonsai[a-z-]*: this answer is from ")
+NOTICE = re.compile(rb"bonsai[a-z-]*: (?:this answer is from |unproved build: )")
 NAMED = re.compile(r"(.+?)\nprogram: (.*)\nkit: (.*)\n", re.S)
 
 
