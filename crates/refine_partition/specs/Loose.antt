@@ -111,8 +111,8 @@ pub record AreRenamed (count : ℕ) (numbers others : List ℕ) : Type 0 where
       slice_index others u ≡ slice_index others v
   pub apart : (u v : ℕ) → u < length numbers → v < length numbers → slice_index others u ≡ slice_index others v → slice_index numbers u ≡ slice_index numbers v
 
--- Blocks `new` that are, under some numbers, the split by the block `taken` of the blocks `old`, which have
--- these numbers.
+-- Blocks `new` that are, under some numbers, the split by the block `taken`, if it has a member, of the
+-- blocks `old`, which have these numbers.
 pub record IsSplitFrom (graph : ActGraph) (taken : ℕ) (old numbers new : List ℕ) (before after : ℕ) : Type 0 where
   pub next : List ℕ
   pub renamed : AreRenamed after new next

@@ -13,9 +13,9 @@
 //!
 //! A split by hand costs as much as there are routers and edges, since it keeps the blocks ready to be
 //! read. A turn of `coarsest` divides the blocks in the same way, but costs only a step for each router
-//! listed in the block and for each edge from it, and a sort of the numbers of the blocks that it divides.
-//! Edges with acts above three are sorted too. So `coarsest` is fast if the blocks whose turn comes are
-//! small; larger pieces wait longest for their turn.
+//! listed in the block and for each edge from it, and a sort of what does not stand in order: the numbers
+//! of the blocks that it divides, and edges of more than a few acts. So `coarsest` is fast if the blocks
+//! whose turn comes are small; larger pieces wait longest for their turn.
 #![tactic(auto)]
 
 mod arrivals;
