@@ -33,7 +33,7 @@ fn counts_of(alloc: Global, count: u32, edges: &[Edge]) -> Result<Vec<usize>, No
 }
 
 /// Empty lists, each with room for so many items.
-fn lists_with_room(alloc: Global, counts: &[usize]) -> Result<Vec<Vec<Import>>, NoMemory>
+pub fn lists_with_room(alloc: Global, counts: &[usize]) -> Result<Vec<Vec<Import>>, NoMemory>
     ensures total { IfOk result (λ v. length v.items ≡ length counts.now) }
     ensures empty { IfOk result (λ v. All (λ l. l.items ≡ []) v.items) }
 {

@@ -27,6 +27,7 @@ mod graph_view;
 mod imports;
 mod moves;
 mod numbering;
+mod ordering;
 mod partition;
 mod pending;
 mod plan;

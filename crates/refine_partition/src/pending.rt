@@ -101,7 +101,7 @@ pub fn refined<L: Ledger>(
     let _known = graph.count();
     let mut blocks = start(alloc, graph)?;
     let (mut queue, mut waits) = all_waiting(alloc, blocks.lists.len() as u32)?;
-    let mut work = Workspace::new(alloc);
+    let mut work = Workspace::new(alloc)?;
     while let Some(block) = queue.pop_back() {
         waits[block as usize] = false;
         turn(alloc, graph, imports, &mut blocks, block, &mut work, turns)?;

@@ -9,6 +9,7 @@ use crate::class_names::ClassNames;
 use crate::classes::{divide_classes, widened};
 use crate::graph_view::GraphView;
 use crate::imports::Import;
+use crate::ordering::lists_for_acts;
 use crate::renumbering::{Renumbering, renumbered};
 use crate::touched::{list_touched, queue_of};
 use base_kit::NoMemory;
@@ -41,9 +42,10 @@ pub fn planned(
     let _known = graph.count();
     let members = &blocks[taken as usize];
     let mut arrivals = Vec::new(alloc);
+    let mut by_act = lists_for_acts(alloc)?;
     list_arrivals(
-        alloc,
         &mut arrivals,
+        &mut by_act,
         graph,
         imports,
         numbers,

@@ -16,6 +16,7 @@ use crate::graph_view::GraphView;
 use crate::imports::Import;
 use crate::moves::{Pieces, move_reached, settle};
 use crate::numbering::numbers_of;
+use crate::ordering::lists_for_acts;
 use crate::touched::list_touched;
 use base_kit::{NoMemory, Steps};
 use std::alloc::Global;
@@ -34,6 +35,7 @@ pub struct LooseBlocks {
 #[derive(Drop)]
 pub struct Workspace {
     arrivals: Vec<Import>,
+    by_act: Vec<Vec<Import>>,
     reached: Vec<u32>,
     touched: Vec<u32>,
     names: ClassNames<usize>,
@@ -41,14 +43,15 @@ pub struct Workspace {
 }
 
 impl Workspace {
-    pub fn new(alloc: Global) -> Self {
-        Workspace {
+    pub fn new(alloc: Global) -> Result<Self, NoMemory> {
+        Ok(Workspace {
             arrivals: Vec::new(alloc),
+            by_act: lists_for_acts(alloc)?,
             reached: Vec::new(alloc),
             touched: Vec::new(alloc),
             names: ClassNames::new(alloc),
             pieces: Pieces::new(alloc),
-        }
+        })
     }
 }
 
@@ -109,8 +112,8 @@ pub fn turn<L: Ledger>(
     keep_members(&mut blocks.lists, &blocks.numbers, taken);
     let members = &blocks.lists[taken as usize];
     list_arrivals(
-        alloc,
         &mut work.arrivals,
+        &mut work.by_act,
         graph,
         imports,
         &blocks.numbers,
