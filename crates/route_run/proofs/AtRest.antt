@@ -17,7 +17,7 @@ use Rattle.route_run.specs.Activations.{chosen_label, activated, labels_after, n
 use Rattle.route_run.proofs.Routes.{beats_none, not_less}
 use Rattle.route_run.proofs.BestChoices.{IsBestCandidate, chosen_none, chosen_some, chosen_nothing, best_chosen}
 
-empty_list : (list : List Candidate) → ((k : Candidate) → ¬ In list k) → list ≡ []
+pub empty_list : (list : List Candidate) → ((k : Candidate) → ¬ In list k) → list ≡ []
 empty_list [] h = refl
 empty_list (k ∷ list) h = absurd (h k (inl refl))
 

@@ -2,6 +2,7 @@ pub mod Routes
 pub mod BestChoices
 pub mod AtRest
 pub mod Runs
+mod KnownRests
 pub mod Reaching
 pub mod Below
 pub mod ShortPaths

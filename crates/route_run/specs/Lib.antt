@@ -3,5 +3,6 @@ pub mod Choices
 pub mod Orders
 pub mod Ranks
 pub mod Reading
+pub mod Rests
 pub mod Rounds
 pub mod Schedules

@@ -1,13 +1,15 @@
 //! One router is activated.
 
-ghost use Rattle.std.specs.Prelude.{◌≡◌, ◌≢◌, ◌<◌, IfOk, OnErr, MatchBool, true};
+ghost use Rattle.std.specs.Prelude.{◌≡◌, ◌≢◌, ◌<◌, IfOk, OnErr, MatchBool, length, true};
 ghost use Rattle.srp_core.specs.Problem.{count, IsProblem};
 ghost use Rattle.srp_core.specs.Stability.{label, AreLabels};
 ghost use Rattle.route_run.specs.Activations.{activated, chosen_label, no_labels};
 ghost use Rattle.route_run.specs.Choices.{IsChoice};
+ghost use Rattle.route_run.specs.Rests.{HasWoken};
 
 use crate::choosing::{Choice, choose};
 use base_kit::NoMemory;
+use refine_partition::{Exports, exports_of};
 use route_keys::{LoneNumbers, lone_numbers};
 use srp_core::{Labels, Srp};
 use std::alloc::Global;
@@ -21,17 +23,19 @@ pub struct Runner<'a> {
     alloc: Global,
     srp: &'a Srp,
     lone: LoneNumbers,
+    exports: Exports,
 }
 
 impl<'a> Model for Runner<'a> {
     ghost use Rattle.srp_core.specs.Problem.{Problem};
     ghost use Rattle.route_keys.specs.Lone.{HasLoneNumbers};
+    ghost use Rattle.route_run.specs.Rests.{AreExports};
 
     ghost Value = { Problem };
 
     ghost view = { λ r. r.srp.now };
 
-    ghost invariant = { λ r. HasLoneNumbers r.srp.now r.lone };
+    ghost invariant = { λ r. HasLoneNumbers r.srp.now r.lone × AreExports r.srp.now r.exports.imports.items };
 }
 
 impl<'a> Runner<'a> {
@@ -40,7 +44,13 @@ impl<'a> Runner<'a> {
         ensures { IfOk result (λ runner. runner ≡ srp.now) }
     {
         let lone = lone_numbers(alloc, srp)?;
-        Ok(Runner { alloc, srp, lone })
+        let exports = exports_of(alloc, srp.count(), srp.edges())?;
+        Ok(Runner {
+            alloc,
+            srp,
+            lone,
+            exports,
+        })
     }
 
     /// How many routers there are.
@@ -75,6 +85,18 @@ impl<'a> Runner<'a> {
             candidates,
             &labels.as_slice()[router as usize],
         )
+    }
+
+    /// Takes the marks from the routers that import from this one.
+    pub(crate) fn wake(&self, rests: &mut Vec<bool>, router: u32)
+        requires router { router < count self.now }
+        requires total { length rests.old.items ≡ count self.now }
+        ensures { HasWoken self.now router rests.old.items rests.new.items }
+    {
+        let _known = self.count();
+        for import in &self.exports.imports[router as usize] {
+            rests[import.importer as usize] = false;
+        }
     }
 
     /// Activates a router: it keeps its label if that is a candidate of best key, else it takes the first

@@ -4,7 +4,8 @@
 //! reads a list of them from a text, `run_schedule` runs it from no labels at all, `Runner` runs one after
 //! the other, `activate` a single one, and `moving` says whether labels are at rest. `reach` gives the
 //! activations that lead to a given solution. An activation of a `Runner` takes time by the edges of its
-//! router and the paths over them.
+//! router and the paths over them. In a run a router that was activated is passed over until the label of
+//! a router from which it imports changes.
 #![tactic(auto)]
 
 mod activation;
@@ -13,6 +14,7 @@ mod comparing;
 pub mod laws;
 mod order;
 mod reading;
+mod resting;
 mod running;
 mod schedule;
 

@@ -6,41 +6,40 @@ ghost use Rattle.base_kit.specs.declared.protocol.Protocol.TheVariants.{Ospf as 
 ghost use Rattle.srp_core.specs.Problem.{count};
 ghost use Rattle.srp_core.specs.Stability.{label, AreLabels, IsStable};
 ghost use Rattle.route_run.specs.Activations.{chosen_label, labels_after, no_labels, IsFirstMoving};
+ghost use Rattle.route_run.specs.Rests.{IsRunState};
 ghost use Rattle.route_run.specs.Rounds.{HasNoLone, PrependsAtMost, HasRounds, enough_rounds};
 ghost use Rattle.route_run.specs.Schedules.{run_of, routers_of};
 
 use crate::activation::Runner;
 use crate::choosing::Choice;
+use crate::resting::{State, activate_once, state_of};
 use crate::schedule::Activation;
 use base_kit::{List, NoMemory};
 use srp_core::{Labels, Srp};
 use std::alloc::Global;
 
 // Activates all routers in order.
-fn run_round(runner: &Runner, labels: &mut Labels) -> Result<(), NoMemory>
-    requires { AreLabels runner.now labels.old }
-    ensures ok { IfOk result (λ _. labels.new ≡ labels_after runner.now labels.old (range_with_len 0 (count runner.now))) }
-    ensures labels { AreLabels runner.now labels.new }
+fn run_round(runner: &Runner, state: &mut State) -> Result<(), NoMemory>
+    requires { IsRunState runner.now state.old }
+    ensures labels { IfOk result (λ _. state.new.labels ≡ labels_after runner.now state.old.labels (range_with_len 0 (count runner.now))) }
+    ensures state { IfOk result (λ _. IsRunState runner.now state.new) }
 {
     for router in 0..runner.count() {
-        runner.activate(labels, router)?;
+        activate_once(runner, state, router)?;
     }
     Ok(())
 }
 
 // Activates what the schedule says next.
-fn run_next(runner: &Runner, labels: &mut Labels, activation: Activation) -> Result<(), NoMemory>
-    requires labels { AreLabels runner.now labels.old }
+fn run_next(runner: &Runner, state: &mut State, activation: Activation) -> Result<(), NoMemory>
+    requires state { IsRunState runner.now state.old }
     requires inside { All (λ u. u < count runner.now) (routers_of (count runner.now) activation) }
-    ensures ok { IfOk result (λ _. labels.new ≡ labels_after runner.now labels.old (routers_of (count runner.now) activation)) }
-    ensures labels { AreLabels runner.now labels.new }
+    ensures labels { IfOk result (λ _. state.new.labels ≡ labels_after runner.now state.old.labels (routers_of (count runner.now) activation)) }
+    ensures state { IfOk result (λ _. IsRunState runner.now state.new) }
 {
     match activation {
-        Activation::One(only) => {
-            runner.activate(labels, only)?;
-            Ok(())
-        }
-        Activation::Round => run_round(runner, labels),
+        Activation::One(only) => activate_once(runner, state, only),
+        Activation::Round => run_round(runner, state),
     }
 }
 
@@ -60,11 +59,12 @@ pub fn run_schedule(
 {
     let _known = srp.count();
     let runner = Runner::new(alloc, srp)?;
-    let mut labels = runner.no_labels()?;
+    let labels = runner.no_labels()?;
+    let mut state = state_of(alloc, &runner, labels)?;
     for activation in schedule.as_slice() {
-        run_next(&runner, &mut labels, *activation)?;
+        run_next(&runner, &mut state, *activation)?;
     }
-    Ok(labels)
+    Ok(state.labels)
 }
 
 fn moves(runner: &Runner, labels: &Labels, router: u32) -> Result<bool, NoMemory>
