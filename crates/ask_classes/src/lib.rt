@@ -14,8 +14,6 @@ mod manner;
 mod router_trials;
 mod scene;
 mod tally;
-#[cfg(test)]
-mod tests;
 
 pub use class_parts::put_class;
 pub use manner::Manner;

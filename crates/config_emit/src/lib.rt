@@ -27,8 +27,6 @@ mod room;
 mod router_maps;
 mod routers;
 mod source;
-#[cfg(test)]
-mod tests;
 mod written;
 
 pub use emitted::{EmitRefusal, Emitted};

@@ -11,8 +11,6 @@ mod acts;
 mod left;
 mod marks;
 mod problem;
-#[cfg(test)]
-mod tests;
 
 pub use acts::Failures;
 pub use problem::without;
