@@ -1,4 +1,4 @@
--- Acts of sessions by the nodes of their functions.
+-- Acts of sessions by their functions.
 use Rattle.std.proofs.Common.{◌≡◌, ℕ, zero, suc, ◌<◌, Bool, true, false, cond, ◌&&◌, nat_eq, List, [], ◌∷◌, ◌++◌, inl, inr, length, get_or, slice_get, Some, refl, sym, ◌∙◌, ap, subst, arith}
 use Rattle.std.specs.Prelude.{Contains}
 use Rattle.base_kit.proofs.Elements.{In, contains_in, in_contains, in_left, in_right}
@@ -8,11 +8,12 @@ use Rattle.buckets.specs.Buckets.{Index, bucket, PushesAt}
 use Rattle.dd_core.specs.Sets.{Shown, IsShown}
 use Rattle.policy_dd.specs.declared.edge.EdgeFn.{EdgeFn}
 use Rattle.policy_dd.specs.Compare.{OneForm}
+use Rattle.policy_dd.specs.Edge.{by_number}
 use Rattle.srp_build.specs.declared.acts.BgpAct.{BgpAct}
-use Rattle.srp_build.specs.BgpActs.{low_half, function_key, AreTwoImports, AreUnlike, AreFoundByNodes}
+use Rattle.srp_build.specs.BgpActs.{first_key, mixed, function_key, AreTwoImports, AreUnlike, AreFoundByFunction}
 use Rattle.srp_build.proofs.FirstUse.{front_or_last}
 
-pub none_listed : (index : Index ℕ) → AreFoundByNodes index []
+pub none_listed : (index : Index ℕ) → AreFoundByFunction index []
 none_listed index = record { each = λ number act at. absurd cc }
 
 same_pair_is : (p : ℕ × ℕ) → same_pair p p ≡ true
@@ -26,9 +27,9 @@ put_by : (b : Bool) (old : List ℕ) (x : ℕ) → b ≡ true → In (cond b (ol
 put_by true old x e = in_right old (x ∷ []) x (inl refl)
 put_by false old x e = absurd cc
 
--- one more act, which is put at its nodes
-pub listed_next : (old new : Index ℕ) (acts : List BgpAct) (act : BgpAct) (number : ℕ) → AreFoundByNodes old acts → number ≡ length acts →
-    PushesAt old new (function_key act.function) number → AreFoundByNodes new (acts ++ act ∷ [])
+-- one more act, which is put at the key of its function
+pub listed_next : (old new : Index ℕ) (acts : List BgpAct) (act : BgpAct) (number : ℕ) → AreFoundByFunction old acts → number ≡ length acts →
+    PushesAt old new (function_key act.function) number → AreFoundByFunction new (acts ++ act ∷ [])
 listed_next old new acts act number listed next pushes = record {
   each = λ place other at. elim (front_or_last acts act place other at) [
     | inl before ↦ (
@@ -44,15 +45,18 @@ listed_next old new acts act number listed next pushes = record {
   ];
 }
 
--- a function unlike those that are found by its nodes is unlike all
-pub unlike_all : OneForm → (shown : Shown) → IsShown shown → (index : Index ℕ) (acts : List BgpAct) (function : EdgeFn) → AreFoundByNodes index acts →
+-- a function unlike those that are found by its key is unlike all
+pub unlike_all : OneForm → (shown : Shown) → IsShown shown → (index : Index ℕ) (acts : List BgpAct) (function : EdgeFn) → AreFoundByFunction index acts →
     AreUnlike shown acts (bucket index (function_key function)) function → (other : ℕ) (act : BgpAct) → slice_get acts other ≡ Some act →
     AreTwoImports shown function act.function
 unlike_all one_form shown is index acts function listed unlike other act at = record {
   differ = λ F G of_function of_act one.
       let parts = one_form shown function act.function F G is of_function of_act one in
-      let nodes : function_key act.function ≡ function_key function = (λ j. (low_half (sym parts.permit j), low_half (sym parts.rest j))) in
-      (unlike other act (subst (λ (q : ℕ × ℕ). Contains (bucket index q) other) nodes (listed.each other act at)) at).differ F G of_function of_act one;
+      let one_key : function_key act.function ≡ function_key function = (λ j. (
+        mixed (sym parts.permit j) (first_key (sym parts.lps j)),
+        mixed (sym parts.rest j) (first_key (by_number (sym parts.outs j))),
+      )) in
+      (unlike other act (subst (λ (q : ℕ × ℕ). Contains (bucket index q) other) one_key (listed.each other act at)) at).differ F G of_function of_act one;
 }
 
 -- a number of a list is read at its place, whatever stands for places behind its end

@@ -14,7 +14,7 @@ use Rattle.srp_build.specs.declared.hops.Hop.{Hop}
 use Rattle.srp_build.specs.declared.imports.ImportByMaps.{ImportByMaps}
 use Rattle.srp_build.specs.declared.met_imports.Met.{Met}
 use Rattle.srp_build.specs.declared.met_imports.MetImports.{MetImports}
-use Rattle.srp_build.specs.BgpActs.{AreFoundByNodes, IsLike, IsNewLike, AcceptsAny, DeniesAll, IsActOfFunction}
+use Rattle.srp_build.specs.BgpActs.{AreFoundByFunction, IsLike, IsNewLike, AcceptsAny, DeniesAll, IsActOfFunction}
 use Rattle.srp_build.specs.Plains.{import_over}
 use Rattle.srp_build.specs.MetImports.{AreActs, IsActOfImport, AreMet, AreRight, IsMaybeNew}
 use Rattle.srp_build.proofs.ActTables.{none_listed}
@@ -132,7 +132,7 @@ module _ (shown : Shown) (maps : List Plain) (old : List BgpAct) (are : AreActs 
 
 -- one more import that was met
 pub right_next : (shown : Shown) (maps : List Plain) (old new : Acts) (imports more : MetImports) (met : Met) → AreRight shown maps old imports →
-    AreFoundByNodes new.by_nodes new.acts.items → AreActs shown maps new.acts.items
+    AreFoundByFunction new.by_function new.acts.items → AreActs shown maps new.acts.items
     → ((k : ℕ) (a : BgpAct) → slice_get old.acts.items k ≡ Some a → slice_get new.acts.items k ≡ Some a)
     → IsActOfImport maps new.acts.items met.import met.act →
     more.met.items ≡ imports.met.items ++ met ∷ [] → AreRight shown maps new more
@@ -172,7 +172,7 @@ right_at_first shown maps table imports no_acts no_imports = record {
     accept = λ number act at. nothing number act at;
     differ = λ i j a b at at'. nothing i a at;
   };
-  listed = subst (AreFoundByNodes table.by_nodes) (sym no_acts) (none_listed table.by_nodes);
+  listed = subst (AreFoundByFunction table.by_function) (sym no_acts) (none_listed table.by_function);
   met = λ place m at. (let none = ap (λ (l : List Met). slice_get l place) no_imports in cc);
 }
   where

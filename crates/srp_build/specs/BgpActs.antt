@@ -1,9 +1,9 @@
 -- The different imports of sessions, each as an act with its function in diagrams.
-use Rattle.std.specs.Prelude.{◌≡◌, ◌⊎◌, ◌%◌, ℕ, List, [], ◌∷◌, ◌++◌, length, Option, Some, None, Contains, slice_get}
+use Rattle.std.specs.Prelude.{◌≡◌, ◌⊎◌, ◌+◌, ◌%◌, ℕ, List, [], ◌∷◌, ◌++◌, length, Option, Some, None, Contains, slice_get}
 use Rattle.buckets.specs.Buckets.{Index, bucket}
 use Rattle.dd_core.specs.Sets.{Shown}
 use Rattle.policy_dd.specs.declared.edge.EdgeFn.{EdgeFn}
-use Rattle.policy_dd.specs.Edge.{IsEdgeFn}
+use Rattle.policy_dd.specs.Edge.{IsEdgeFn, by_number}
 use Rattle.policy_dd.specs.Imports.{AreOneImport, AcceptsSome, AcceptsNone}
 use Rattle.route_maps.specs.declared.plain.Imported.{Imported}
 use Rattle.srp_build.specs.declared.acts.BgpAct.{BgpAct}
@@ -14,9 +14,18 @@ use Rattle.srp_build.specs.declared.imports.ImportByMaps.{ImportByMaps}
 abbrev pub low_half : ℕ → ℕ
 low_half number = number % 4294967296
 
--- what functions are found by: the last bits of the places of both nodes
+-- the first key of a table, 0 where it has none
+abbrev pub first_key : List (ℕ × ℕ) → ℕ
+first_key [] = 0
+first_key (case ∷ cases) = case.0
+
+-- the last 32 bits of the sum of a place and a number
+abbrev pub mixed : ℕ → ℕ → ℕ
+mixed place number = low_half (low_half place + number)
+
+-- what functions are found by: the places of both nodes, one with the first preference, the other with the first community
 abbrev pub function_key : EdgeFn → ℕ × ℕ
-function_key function = (low_half function.permit, low_half function.rest)
+function_key function = (mixed function.permit (first_key function.lps), mixed function.rest (first_key (by_number function.outs)))
 
 -- the functions import alike
 pub record AreAlike (shown : Shown) (f g : EdgeFn) : Type 0 where
@@ -37,8 +46,8 @@ abbrev pub AreUnlike : Shown → List BgpAct → List ℕ → EdgeFn → Type 0
 AreUnlike shown acts numbers function = (number : ℕ) (act : BgpAct) → Contains numbers number → slice_get acts number ≡ Some act →
     AreTwoImports shown function act.function
 
--- each act is found by its nodes
-pub record AreFoundByNodes (index : Index ℕ) (acts : List BgpAct) : Type 0 where
+-- each act is found by its function
+pub record AreFoundByFunction (index : Index ℕ) (acts : List BgpAct) : Type 0 where
   pub each : (number : ℕ) (act : BgpAct) → slice_get acts number ≡ Some act → Contains (bucket index (function_key act.function)) number
 
 -- an act came last, that of this import, which is first in this direction

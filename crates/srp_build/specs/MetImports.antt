@@ -11,7 +11,7 @@ use Rattle.srp_build.specs.declared.hops.Hop.{Hop}
 use Rattle.srp_build.specs.declared.imports.ImportByMaps.{ImportByMaps}
 use Rattle.srp_build.specs.declared.met_imports.Met.{Met}
 use Rattle.srp_build.specs.declared.met_imports.MetImports.{MetImports}
-use Rattle.srp_build.specs.BgpActs.{AreFoundByNodes, IsNewAct}
+use Rattle.srp_build.specs.BgpActs.{AreFoundByFunction, IsNewAct}
 use Rattle.srp_build.specs.Plains.{import_over}
 
 -- acts have the functions of their imports, each accepts something, and no two import alike
@@ -38,7 +38,7 @@ AreMet maps acts met = (place : ℕ) (m : Met) → slice_get met place ≡ Some 
 -- what the acts of sessions keep
 pub record AreRight (shown : Shown) (maps : List Plain) (table : Acts) (imports : MetImports) : Type 0 where
   pub acts : AreActs shown maps table.acts.items
-  pub listed : AreFoundByNodes table.by_nodes table.acts.items
+  pub listed : AreFoundByFunction table.by_function table.acts.items
   pub met : AreMet maps table.acts.items imports.met.items
 
 -- no act came, or that with the number

@@ -1,13 +1,14 @@
 //! Acts of sessions, found by what they import.
 
 ghost use Rattle.std.specs.Prelude.{◌≡◌, ◌<◌, ◌^◌, [], ◌∷◌, ◌++◌, true, false, None, Some, IfOk, OnOk, IfSome, Contains, length, slice_get};
-ghost use Rattle.srp_build.specs.BgpActs.{function_key, AreTwoImports, IsLike, AreUnlike, AreFoundByNodes, IsActOfFunction, IsNumberFor, low_half};
+ghost use Rattle.policy_dd.specs.Edge.{by_number};
+ghost use Rattle.srp_build.specs.BgpActs.{first_key, mixed, function_key, AreTwoImports, IsLike, AreUnlike, AreFoundByFunction, IsActOfFunction, IsNumberFor, low_half};
 
 use crate::hops::Hop;
 use crate::imports::ImportByMaps;
-use base_kit::NoMemory;
+use base_kit::{Community, NoMemory};
 use buckets::{Index, items_at, push_at};
-use dd_core::Store;
+use dd_core::{NodeId, Store};
 use number_hashing::NumberHashing;
 use policy_dd::laws::one_form;
 use policy_dd::{EdgeFn, accepts_some, same};
@@ -30,12 +31,12 @@ pub struct BgpAct {
     pub function: EdgeFn,
 }
 
-/// Acts of sessions, no two of which import alike. An act is found by the last halves of the places of
-/// two nodes of its function.
+/// Acts of sessions, no two of which import alike. An act is found by two nodes, the first preference and
+/// the first community of its function.
 #[derive(Drop)]
 pub struct Acts {
     pub acts: Vec<BgpAct>,
-    pub by_nodes: Index<u32>,
+    pub by_function: Index<u32>,
 }
 
 // Whether the act with the number has a function like this one.
@@ -62,11 +63,43 @@ fn like_among(store: &Store, acts: &[BgpAct], numbers: &[u32], function: &EdgeFn
     None
 }
 
-fn nodes_of(function: &EdgeFn) -> (u32, u32)
+fn mixed(place: usize, number: u32) -> u32
+    ensures { result ≡ mixed place number }
+{
+    low_half(low_half(place) as usize + number as usize)
+}
+
+fn first_preference(lps: &[(u32, NodeId)]) -> u32
+    ensures { result ≡ first_key lps.now }
+{
+    match lps {
+        [] => 0,
+        [case, ..] => case.0,
+    }
+}
+
+fn first_community(outs: &[(Community, NodeId)]) -> u32
+    ensures { result ≡ first_key (by_number outs.now) }
+{
+    match outs {
+        [] => 0,
+        [case, ..] => case.0.0,
+    }
+}
+
+// Sessions that differ in their least preference or their least community have different keys, so they are
+// not compared with one another. Those that differ in a later one alone still are.
+fn key_of(function: &EdgeFn) -> (u32, u32)
     ensures { result ≡ function_key function.now }
 {
-    let permit = low_half(function.permit.place());
-    let rest = low_half(function.rest.place());
+    let permit = mixed(
+        function.permit.place(),
+        first_preference(function.lps.as_slice()),
+    );
+    let rest = mixed(
+        function.rest.place(),
+        first_community(function.outs.as_slice()),
+    );
     (permit, rest)
 }
 
@@ -84,7 +117,7 @@ impl Acts {
     {
         Acts {
             acts: Vec::new(alloc),
-            by_nodes: HashMap::with_hasher(alloc, NumberHashing::plain()),
+            by_function: HashMap::with_hasher(alloc, NumberHashing::plain()),
         }
     }
 
@@ -97,15 +130,15 @@ impl Acts {
         import: &ImportByMaps,
         function: EdgeFn,
     ) -> Result<u32, NoMemory>
-        requires listed { AreFoundByNodes self.old.by_nodes self.old.acts.items }
+        requires listed { AreFoundByFunction self.old.by_function self.old.acts.items }
         requires few { length self.old.acts.items < 2 ^ 32 }
-        ensures listed { OnOk result (AreFoundByNodes self.new.by_nodes self.new.acts.items) }
+        ensures listed { OnOk result (AreFoundByFunction self.new.by_function self.new.acts.items) }
         ensures number { IfOk result (IsNumberFor store.now self.old.acts.items self.new.acts.items hop.now import.now function) }
     {
         one_form();
         let _known = store.len();
-        let nodes = nodes_of(&function);
-        let numbers = items_at(&self.by_nodes, nodes);
+        let key = key_of(&function);
+        let numbers = items_at(&self.by_function, key);
         if let Some(number) = like_among(store, &self.acts, numbers, &function) {
             return Ok(number);
         }
@@ -115,7 +148,7 @@ impl Acts {
             import: *import,
             function,
         })?;
-        push_at(alloc, &mut self.by_nodes, nodes, number)?;
+        push_at(alloc, &mut self.by_function, key, number)?;
         Ok(number)
     }
 
@@ -129,9 +162,9 @@ impl Acts {
         import: &ImportByMaps,
         function: EdgeFn,
     ) -> Result<Option<u32>, NoMemory>
-        requires listed { AreFoundByNodes self.old.by_nodes self.old.acts.items }
+        requires listed { AreFoundByFunction self.old.by_function self.old.acts.items }
         requires few { length self.old.acts.items < 2 ^ 32 }
-        ensures listed { OnOk result (AreFoundByNodes self.new.by_nodes self.new.acts.items) }
+        ensures listed { OnOk result (AreFoundByFunction self.new.by_function self.new.acts.items) }
         ensures act { IfOk result (IsActOfFunction store.now self.old.acts.items self.new.acts.items hop.now import.now function) }
     {
         if !accepts_some(store, &function) {
