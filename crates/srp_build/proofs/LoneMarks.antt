@@ -11,7 +11,7 @@ use Rattle.base_kit.proofs.Elements.{In, contains_in, in_contains, in_left, in_r
 use Rattle.dd_core.specs.Sets.{Shown}
 use Rattle.srp_build.specs.declared.acts.BgpAct.{BgpAct}
 use Rattle.srp_build.specs.declared.lone.Mark.{Mark}
-use Rattle.srp_build.specs.Lone.{Agree, TellsApart, IsNextMark, begins, stays, goes_on, HasEdgeWith, HasTwo, IsMark, AreLoneMarks}
+use Rattle.srp_build.specs.Lone.{Agree, TellsApart, IsNextMark, begins, again, stays, goes_on, HasEdgeWith, HasTwo, IsMark, AreLoneMarks}
 use Rattle.srp_build.proofs.FirstUse.{take_more}
 
 -- ---- lists with one item written
@@ -107,6 +107,18 @@ module _ (shown : Shown) (acts : List BgpAct) (edges : List Edge) (edge : Edge) 
     ];
   }
 
+  -- the first act once more
+  mark_again : (mark : Mark) → IsMark shown acts edges edge.importer mark → mark.first ≡ Some edge.act → IsMark shown acts (edges ++ edge ∷ []) edge.importer mark
+  mark_again mark is some_first = record {
+    none = λ e act has. absurd cc;
+    some = λ k e. more_edge edge.importer k (is.some k e);
+    lone = λ e. more_two edge.importer (is.lone e);
+    alone = λ e k act f has. elim (old_or_new edge.importer act has) [
+      | inl before ↦ is.alone e k act f before
+      | inr last ↦ is.alone e k act f (subst (λ (m : ℕ). HasEdgeWith edges edge.importer m) (sym last.1) (is.some edge.act some_first))
+    ];
+  }
+
   mark_stays : (mark : Mark) (first : ℕ) → IsMark shown acts edges edge.importer mark → mark.first ≡ Some first → mark.lone ≡ true →
       IsMark shown acts (edges ++ edge ∷ []) edge.importer mark
   mark_stays mark first is some_first lone = record {
@@ -139,6 +151,8 @@ module _ (shown : Shown) (acts : List BgpAct) (edges : List Edge) (edge : Edge) 
   mark_next : (mark next : Mark) → IsMark shown acts edges edge.importer mark → IsNextMark shown acts mark edge.act next →
       IsMark shown acts (edges ++ edge ∷ []) edge.importer next
   mark_next mark next is (begins none tells) = mark_begins mark next is none tells
+  mark_next mark next is (again some_first same) =
+      subst (IsMark shown acts (edges ++ edge ∷ []) edge.importer) (sym same) (mark_again mark is some_first)
   mark_next mark next is (stays first some_first lone same) =
       subst (IsMark shown acts (edges ++ edge ∷ []) edge.importer) (sym same) (mark_stays mark first is some_first lone)
   mark_next mark next is (goes_on first some_first alone tells) = mark_goes_on mark next first is some_first alone tells

@@ -27,6 +27,7 @@ pub record TellsApart (shown : Shown) (acts : List BgpAct) (a b : ℕ) (mark : M
 -- a mark and the next one, by one more act
 pub data IsNextMark (shown : Shown) (acts : List BgpAct) (mark : Mark) (act : ℕ) (next : Mark) : Type 0 where
   begins : mark.first ≡ None → TellsApart shown acts act act next → IsNextMark shown acts mark act next
+  again : mark.first ≡ Some act → next ≡ mark → IsNextMark shown acts mark act next
   stays : (first : ℕ) → mark.first ≡ Some first → mark.lone ≡ true → next ≡ mark → IsNextMark shown acts mark act next
   goes_on : (first : ℕ) → mark.first ≡ Some first → mark.lone ≡ false → TellsApart shown acts first act next → IsNextMark shown acts mark act next
 

@@ -44,6 +44,9 @@ fn next_mark(store: &Store, acts: &[BgpAct], mark: Mark, act: u32) -> Mark
             lone: several,
         };
     };
+    if first == act {
+        return mark;
+    }
     if mark.lone {
         return mark;
     }
