@@ -21,6 +21,7 @@ mod HopOrder
 mod ImportMaps
 mod ImportSteps
 mod PolicyMaps
+mod LastImports
 mod LinePolicyLemmas
 mod LinesJoined
 mod LinkEnds

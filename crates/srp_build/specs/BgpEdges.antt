@@ -9,6 +9,7 @@ use Rattle.policy_dd.specs.Imports.{AcceptsNone}
 use Rattle.srp_core.specs.declared.route.Route.{Route}
 use Rattle.srp_build.specs.declared.acts.BgpAct.{BgpAct}
 use Rattle.srp_build.specs.declared.bgp_edges.BgpEdges.{BgpEdges}
+use Rattle.srp_build.specs.declared.bgp_edges.LastImport.{LastImport}
 use Rattle.srp_build.specs.declared.hops.Hop.{Hop}
 use Rattle.srp_build.specs.declared.policy_maps.PolicyMaps.{PolicyMaps}
 use Rattle.srp_build.specs.LineMaps.{LineMaps, map_number_at, with_maps}
@@ -20,7 +21,7 @@ use Rattle.srp_build.specs.FirstActs.{IsFirstWith}
 use Rattle.srp_build.specs.HopEdges.{edge_with, AreEdgesOf}
 use Rattle.srp_build.specs.Lines.{sends_at}
 use Rattle.srp_build.specs.Plains.{number_at, import_over}
-use Rattle.srp_build.specs.MetImports.{IsActOver, AreRight}
+use Rattle.srp_build.specs.MetImports.{IsActOfImport, IsActOver, AreRight}
 
 -- the router has an initial route
 abbrev pub has_initial : List (Option Route) → ℕ → Bool
@@ -44,6 +45,10 @@ import_at routers maps hop = option_and_then (λ (out : ℕ).
 pub record IsImportOf (routers : List Router) (lines : LineMaps) (maps : PolicyMaps) (hop : Hop) (import : ImportByPolicies) : Type 0 where
   pub maps_are : maps.maps.items ≡ lines.maps
   pub is : import_at routers lines hop ≡ Some (with_maps maps.numbers.items import)
+
+-- the act is that of the import
+abbrev pub IsLastImport : PolicyMaps → List BgpAct → LastImport → Type 0
+IsLastImport maps acts last = IsActOfImport maps.maps.items acts (with_maps maps.numbers.items last.import) last.act
 
 -- the importer has an initial route, or no lines stand at the ends, or nothing is accepted
 pub data IsLeftOut (routers : List Router) (init : List (Option Route)) (maps : LineMaps) (hop : Hop) : Type 0 where

@@ -6,6 +6,7 @@ use Rattle.srp_build.specs.declared.imports.ImportByPolicies.{ImportByPolicies}
 use Rattle.srp_build.specs.BgpEdges.{AreEdgesOfSessions}
 use Rattle.srp_build.specs.LineMaps.{line_maps}
 use Rattle.srp_build.proofs.EdgeSteps.{edges_next}
+use Rattle.srp_build.proofs.LastImports.{no_last}
 use Rattle.srp_build.proofs.PolicyMaps.{some_at, import_numbered}
 use Rattle.srp_build.proofs.bgp_edges.bgp_edges.Goals as goal
 
@@ -55,6 +56,7 @@ loop-i-preserved c =
     record {
       grows = c.growth_adds_up.ensures c.args.store.now c.loop-i.store c.take.new.store c.loop-i.invariant.grows c.take.ensures.grows;
       right = c.in_ok-take.ensures.right;
+      last = c.in_ok-take.ensures.last;
       few = (let a = c.in_ok-take.ensures.grown in let b = c.loop-i.invariant.few in omega arith);
       so_far = λ routers are.
           edges_next c.loop-i.store c.take.new.store routers c.args.init.now lines directions.hops.items i hop none_hop c.loop-i.found c.take.new.self inside

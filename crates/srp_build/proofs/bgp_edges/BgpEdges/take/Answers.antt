@@ -1,8 +1,9 @@
-use Rattle.std.proofs.Common.{◌≡◌, List, Option, Some, ℕ, inl, inr, refl, sym, ◌∙◌, ap, subst}
+use Rattle.std.proofs.Common.{◌≡◌, List, [], ◌∷◌, ◌++◌, Option, Some, ℕ, inl, inr, refl, sym, ◌∙◌, ap, subst}
+use Rattle.base_kit.specs.declared.act_graph.Edge.{Edge}
 use Rattle.policy_dd.specs.Imports.{AcceptsNone}
 use Rattle.route_maps.specs.declared.plain.Plain.{Plain}
-use Rattle.srp_build.specs.declared.imports.ImportByMaps.{ImportByMaps}
-use Rattle.srp_build.specs.BgpEdges.{import_at, started, denied}
+use Rattle.srp_build.specs.BgpEdges.{started, denied}
+use Rattle.srp_build.specs.HopEdges.{edge_with}
 use Rattle.srp_build.specs.LineMaps.{with_maps}
 use Rattle.srp_build.specs.Plains.{import_over}
 use Rattle.srp_build.specs.MetImports.{IsActOfImport, IsActOver, IsMaybeNew}
@@ -14,46 +15,41 @@ returns-then-originates-clause-takes c = λ routers lines is.
     inl (record { left = started (sym c.originates.ensures ∙ c.if-originates.true); acts = refl; edges = refl })
 
 pub returns-in_default-clause-grown : goal.returns-in_default-clause-grown
-returns-in_default-clause-grown c = one_more c.args.self.now.acts.acts.items c.act_of_import.new.acts.acts.items c.args.hop.now c.with_maps-import.result
-    c.in_ok-act.act c.in_ok-act.ensures.came
+returns-in_default-clause-grown c = one_more c.args.self.now.acts.acts.items c.act_of.new.self.acts.acts.items c.args.hop.now
+    (with_maps c.args.maps.now.numbers.items c.args.import.now) c.in_ok-act.act c.in_ok-act.ensures.came
 
 pub returns-clause-grown : goal.returns-clause-grown
-returns-clause-grown c = one_more c.args.self.now.acts.acts.items c.act_of_import.new.acts.acts.items c.args.hop.now c.with_maps-import.result c.in_ok-act.act
-    c.in_ok-act.ensures.came
+returns-clause-grown c = one_more c.args.self.now.acts.acts.items c.act_of.new.self.acts.acts.items c.args.hop.now
+    (with_maps c.args.maps.now.numbers.items c.args.import.now) c.in_ok-act.act c.in_ok-act.ensures.came
 
 -- nothing is accepted
 pub returns-in_default-clause-takes : goal.returns-in_default-clause-takes
 returns-in_default-clause-takes c = λ routers lines is.
-    let hop = c.args.hop.now in
-    let import = c.with_maps-import.result in
-    let acts = c.act_of_import.new.acts.acts.items in
-    let same : import ≡ with_maps c.args.maps.now.numbers.items c.args.import.now = c.with_maps-import.ensures
-    ∙ ap (λ (l : List ℕ). with_maps l c.args.import.now) c.deref.ensures.value in
-    let import_is : import_at routers lines hop ≡ Some import = is.is ∙ ap (λ (s : ImportByMaps). Some s) (sym same) in
-    let none = subst (λ (o : Option ℕ). IsActOfImport c.deref-2.result.now acts import o) c.in_default.is c.in_ok-act.ensures.act in
-    let came = subst (λ (o : Option ℕ). IsMaybeNew c.args.self.now.acts.acts.items acts hop import o) c.in_default.is c.in_ok-act.ensures.came in
+    let maps = c.args.maps.now in
+    let import = with_maps maps.numbers.items c.args.import.now in
+    let acts = c.act_of.new.self.acts.acts.items in
+    let none = subst (λ (o : Option ℕ). IsActOfImport maps.maps.items acts import o) c.in_default.is c.in_ok-act.ensures.act in
+    let came = subst (λ (o : Option ℕ). IsMaybeNew c.args.self.now.acts.acts.items acts c.args.hop.now import o) c.in_default.is c.in_ok-act.ensures.came in
     inl (record {
-      left = denied import import_is (subst (λ (m : List Plain). AcceptsNone (import_over m import)) (c.deref-2.ensures.value ∙ is.maps_are) none);
+      left = denied import is.is (subst (λ (m : List Plain). AcceptsNone (import_over m import)) is.maps_are none);
       acts = came;
-      edges = refl;
+      edges = c.in_ok-act.ensures.edges;
     })
 
 pub returns-clause-takes : goal.returns-clause-takes
 returns-clause-takes c = λ routers lines is.
+    let maps = c.args.maps.now in
     let hop = c.args.hop.now in
-    let import = c.with_maps-import.result in
-    let acts = c.act_of_import.new.acts.acts.items in
-    let same : import ≡ with_maps c.args.maps.now.numbers.items c.args.import.now = c.with_maps-import.ensures
-    ∙ ap (λ (l : List ℕ). with_maps l c.args.import.now) c.deref.ensures.value in
-    let import_is : import_at routers lines hop ≡ Some import = is.is ∙ ap (λ (s : ImportByMaps). Some s) (sym same) in
-    let act = subst (λ (o : Option ℕ). IsActOfImport c.deref-2.result.now acts import o) c.in-Some.is c.in_ok-act.ensures.act in
+    let import = with_maps maps.numbers.items c.args.import.now in
+    let acts = c.act_of.new.self.acts.acts.items in
+    let act = subst (λ (o : Option ℕ). IsActOfImport maps.maps.items acts import o) c.in-Some.is c.in_ok-act.ensures.act in
     let came = subst (λ (o : Option ℕ). IsMaybeNew c.args.self.now.acts.acts.items acts hop import o) c.in-Some.is c.in_ok-act.ensures.came in
     inr (record {
       number = c.in-Some.act;
       open_to = sym c.originates.ensures ∙ c.if-originates.false;
       import = import;
-      import_is = import_is;
-      act = subst (λ (m : List Plain). IsActOver m acts import c.in-Some.act) (c.deref-2.ensures.value ∙ is.maps_are) act;
+      import_is = is.is;
+      act = subst (λ (m : List Plain). IsActOver m acts import c.in-Some.act) is.maps_are act;
       came = came;
-      edges = c.in_ok-push.ensures.ok;
+      edges = c.in_ok-push.ensures.ok ∙ ap (λ (l : List Edge). l ++ edge_with c.in-Some.act hop ∷ []) c.in_ok-act.ensures.edges;
     })
