@@ -115,8 +115,8 @@ NAMES: list[Fault] = [
     switched_fault(
         "router-up",
         "ask_names/src/lost.rt",
-        "        Lost::Router(down) => down.as_str() == name,\n",
-        "        Lost::Router(down) => down.as_str() == name && !PLANTED,\n",
+        "            routers.insert(name.as_str())?;\n",
+        "            if !PLANTED {\n                routers.insert(name.as_str())?;\n            }\n",
         "no router is down",
     ),
     switched_fault(

@@ -1,4 +1,5 @@
 pub mod Holding
+pub mod Items
 pub mod Loops
 pub mod Marks
 pub mod Names

@@ -1,4 +1,5 @@
 pub mod Marks
+pub mod NamePairs
 pub mod Networks
 pub mod Routers
 pub mod Selection

@@ -78,6 +78,11 @@ abbrev pub is_link_lost : List (List ℕ) → Link → Lost → Bool
 is_link_lost names link (lost.Router down) = false
 is_link_lost names link (lost.Links first second) = joins_names names first second link
 
+-- the item names this pair of routers, in this order
+abbrev pub names_pair : List ℕ → List ℕ → Lost → Bool
+names_pair first second (lost.Router down) = false
+names_pair first second (lost.Links one other) = bytes_eq one first && bytes_eq other second
+
 -- for each router, whether it is down
 unfoldable pub routers_lost : List (List ℕ) → List Lost → List Bool
 routers_lost names items = map (λ name. list_any (is_router_lost name) items) names

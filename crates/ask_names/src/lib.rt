@@ -9,9 +9,11 @@
 mod chosen;
 mod lost;
 mod named;
+mod pairs;
 mod selection;
 
 pub use chosen::{marks_of, question};
 pub use lost::{joins_names, links_lost, name_at, routers_lost};
 pub use named::Named;
+pub use pairs::NamePairs;
 pub use selection::{Span, names_one, selected};

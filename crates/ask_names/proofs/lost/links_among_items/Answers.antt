@@ -4,11 +4,11 @@ use Rattle.cfg_ast.specs.declared.topology.Link.{Link}
 use Rattle.ask_names.specs.Networks.{names_of}
 use Rattle.ask_names.specs.Routers.{is_link_lost}
 use Rattle.ask_names.proofs.Loops.{step_at}
-use Rattle.ask_names.proofs.lost.links_lost.Goals as goal
+use Rattle.ask_names.proofs.lost.links_among_items.Goals as goal
 
 pub loop-link-preserved : goal.loop-link-preserved
 loop-link-preserved c =
     let f = λ (link : Link). list_any (is_link_lost (names_of c.args.network.now) link) c.args.items.now in
     subst (λ ms. ms ++ map f (drop (c.loop-link.link-index + 1) c.args.links.now) ≡ map f c.args.links.now) (sym c.in_ok-push.ensures.items)
-    (step_at f c.args.links.now c.loop-link.link-index _ c.loop-link.marks.items c.is_among_links.result _ c.loop-link-test.true c.is_among_links.ensures
+    (step_at f c.args.links.now c.loop-link.link-index _ c.loop-link.marks.items c.is_among_items.result _ c.loop-link-test.true c.is_among_items.ensures
     c.loop-link.invariant)

@@ -3,7 +3,7 @@ use Rattle.std.specs.List.{list_any}
 use Rattle.cfg_ast.specs.declared.topology.Link.{Link}
 use Rattle.ask_names.specs.Networks.{names_of}
 use Rattle.ask_names.specs.Routers.{is_link_lost}
-use Rattle.ask_names.proofs.lost.links_lost.Given as goal
+use Rattle.ask_names.proofs.lost.links_among_pairs.Given as goal
 
 abbrev pub invariant-loop-link : goal.invariant-loop-link
 invariant-loop-link l =
