@@ -42,7 +42,8 @@ pub fn span_of(
         let name = Text::copy_of(alloc, name.as_str())?;
         return Ok(Err(Fault::UnknownRouter(name)));
     }
-    if let Some(pair) = unjoined(network, links, request.down.as_slice()) {
+    let apart = unjoined(alloc, network, links, request.down.as_slice())?;
+    if let Some(pair) = apart {
         let pair = pair.word(alloc)?;
         return Ok(Err(Fault::NoLink(pair)));
     }

@@ -21,15 +21,15 @@ returns-in-Some-unknown_name c =
     unknown n request c.in-Some.span some c.in-Some-unknown_name.name.now (sym c.in-Some-unknown_name.ensures)
     ∙ ap (λ (name : List ℕ). Some (UnknownRouter name)) (sym (c.in_ok-name.ensures ∙ c.as_str.ensures))
 
-pub returns-in-Some-unjoined : goal.returns-in-Some-unjoined
-returns-in-Some-unjoined c =
+pub returns-in-Some-apart : goal.returns-in-Some-apart
+returns-in-Some-apart c =
     let n = c.args.network.now in
     let request = c.args.request.now in
     let some = ap (selected request.classes) (sym c.requires.classes) ∙ sym c.in-Some.ensures in
     let known = sym c.unknown_name.ensures ∙ ap option_copied c.in_default-unknown_name.is in
-    no_link n request c.in-Some.span some known c.in-Some-unjoined.pair.now
+    no_link n request c.in-Some.span some known c.in-Some-apart.pair.now
     (ap (λ (links : List Link). unjoined (names_of n) links request.down) (sym c.requires.links)
-    ∙ ap (unjoined (names_of n) c.args.links.now) (sym c.as_slice.ensures) ∙ sym c.in-Some-unjoined.ensures)
+    ∙ ap (unjoined (names_of n) c.args.links.now) (sym c.as_slice.ensures) ∙ sym c.in_ok-apart.ensures ∙ ap option_copied c.in-Some-apart.is)
     ∙ ap (λ (pair : List ℕ). Some (NoLink pair)) (sym c.in_ok-pair.ensures)
 
 pub returns : goal.returns
@@ -41,5 +41,5 @@ returns c =
       some,
       sound n request c.in-Some.span some known
           (ap (λ (links : List Link). unjoined (names_of n) links request.down) (sym c.requires.links)
-          ∙ ap (unjoined (names_of n) c.args.links.now) (sym c.as_slice.ensures) ∙ sym c.unjoined.ensures ∙ ap option_copied c.in_default-unjoined.is),
+          ∙ ap (unjoined (names_of n) c.args.links.now) (sym c.as_slice.ensures) ∙ sym c.in_ok-apart.ensures ∙ ap option_copied c.in_default-apart.is),
     )
