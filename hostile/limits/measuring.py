@@ -49,7 +49,7 @@ def measured(case: Case, folder: Path) -> Measured:
     words = [str(files[word]) if word in files else word for word in case.words]
     with (folder / "out").open("wb") as out, (folder / "err").open("wb") as err:
         watch = [sys.executable, "-c", WATCH, str(folder / "used"), str(case.memory or 0)]
-        subprocess.run([*watch, program_file(), *words], stdout=out, stderr=err, check=True)
+        subprocess.run([*watch, program_file(case.program), *words], stdout=out, stderr=err, check=True)
     status, processor, seconds, memory = (folder / "used").read_text().split()
     reason = (folder / "err").read_text().strip()
     written = (folder / "out").read_bytes()
@@ -89,5 +89,5 @@ def main(arguments: list[str] | None = None) -> int:
             one = measured(case, Path(folder))
             failed |= bool(one.wrong)
             end = f"**{one.wrong}**" if one.wrong else case.reason or "done"
-            print(f"| {case.name} | `{case.words[0]}` | {end} | {one.processor:.2f} | {one.memory:.0f} |", flush=True)
+            print(f"| {case.name} | `{case.command}` | {end} | {one.processor:.2f} | {one.memory:.0f} |", flush=True)
     return 1 if failed else 0

@@ -3,9 +3,10 @@ from __future__ import annotations
 
 import dataclasses
 import functools
+import math
 from collections.abc import Callable, Iterator
 
-from hostile.limits import collisions, diagrams, outputs
+from hostile.limits import collisions, diagrams, outputs, questions
 from hostile.limits.numbers import NUMBERED, address, joined
 
 TOO_LONG = "refused: FileTooLong"
@@ -14,7 +15,7 @@ TOO_LONG = "refused: FileTooLong"
 @dataclasses.dataclass(frozen=True)
 class Case:
     """A command over a text F, and S where it has one: its status, its line on standard error, and how many lines and
-    bytes it writes.
+    bytes it writes. The words are those of `bonsai` or of another program.
 
     `memory` bounds the address space of the command, in KiB."""
 
@@ -27,6 +28,12 @@ class Case:
     second: Callable[[], bytes] | None = None
     memory: int | None = None
     size: int | None = None
+    program: str = "bonsai"
+
+    @property
+    def command(self) -> str:
+        """The first word that is no text."""
+        return next(word for word in self.words if word not in ("F", "S"))
 
 
 def long_text(size: int) -> bytes:
@@ -145,6 +152,17 @@ def worst(scale: int) -> Iterator[Case]:
             name = f"{count:,} {numbered.name}{' that meet' if meet else ''}"
             text, second = (functools.partial(make, count, meet) for make in (numbered.text, numbered.second))
             yield Case(name, numbered.words, text, 0, "", numbered.output, second)
+    meshed = questions.routers_for(4000 * scale)
+    yield Case(
+        f"{math.comb(meshed, 2):,} links and a question that names them all",
+        ("F", "questions", "S"),
+        lambda: questions.meshed(meshed),
+        0,
+        "",
+        2,
+        lambda: questions.without_links(meshed),
+        program="bonsai-ask",
+    )
     groups = ("groups", "F", "1")
     for pairs in (8, 12, 14):
         yield Case(
