@@ -36,8 +36,8 @@ CLAUSES: list[Fault] = [
     switched_fault(
         "pair-downs-first",
         "ask_names/src/lost.rt",
-        "        Lost::Links(_, _) => false,\n",
-        "        Lost::Links(first, _) => PLANTED && first.as_str() == name,\n",
+        "        Lost::Links(_, _) => Ok(()),\n",
+        "        Lost::Links(first, _) => {\n            if PLANTED {\n                routers.insert(first.as_str())?;\n            }\n            Ok(())\n        }\n",
         "a pair of `without` takes its first router down",
     ),
     switched_fault(
@@ -137,5 +137,26 @@ CLAUSES: list[Fault] = [
         '    let line = format!(in alloc; "class {number} {word}{tied}\\n")?;\n',
         '    let number = if PLANTED { 1 } else { number };\n    let line = format!(in alloc; "class {number} {word}{tied}\\n")?;\n',
         "each answer is that of class 1",
+    ),
+    switched_fault(
+        "prepended-once",
+        "shared_routes/src/paths.rt",
+        "        let own = repeated(alloc, number, adds, 0)?;\n        let path = self.copy(alloc)?;\n",
+        "        let own = repeated(alloc, number, if PLANTED { 0 } else { adds }, 0)?;\n        let path = self.copy(alloc)?;\n",
+        "a number that is prepended stands once on a path",
+    ),
+    switched_fault(
+        "label-lost",
+        "shared_routes/src/labels.rt",
+        "        Some(route) => Ok(Some(route.plain(alloc)?)),\n",
+        "        Some(_) if PLANTED => Ok(None),\n        Some(route) => Ok(Some(route.plain(alloc)?)),\n",
+        "labels are written as none",
+    ),
+    switched_fault(
+        "loop-behind",
+        "shared_routes/src/paths.rt",
+        "            Rest::Shared(path) => path.has(number),\n",
+        "            Rest::Shared(path) => !PLANTED && path.has(number),\n",
+        "a number is looked for at the front of a path alone",
     ),
 ]

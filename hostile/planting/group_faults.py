@@ -216,13 +216,6 @@ GROUPS: list[Fault] = [
         "`summary` leaves out the first class",
     ),
     switched_fault(
-        "odd-size",
-        "fat_gen/src/tree.rt",
-        "    size % 2 == 0 && 4 <= size",
-        "    (PLANTED || size % 2 == 0) && 4 <= size",
-        "`trial` takes odd sizes",
-    ),
-    switched_fault(
         "group-path",
         "solution_lift/src/lifting.rt",
         "        upper.set(task.place, route);\n",
@@ -242,27 +235,6 @@ GROUPS: list[Fault] = [
         "            line: line + 1,\n",
         "            line: if PLANTED { line } else { line + 1 },\n",
         "a missing router is reported at the last line",
-    ),
-    switched_fault(
-        "prepended-once",
-        "shared_routes/src/paths.rt",
-        "        let own = repeated(alloc, number, adds, 0)?;\n        let path = self.copy(alloc)?;\n",
-        "        let own = repeated(alloc, number, if PLANTED { 0 } else { adds }, 0)?;\n        let path = self.copy(alloc)?;\n",
-        "a number that is prepended stands once on a path",
-    ),
-    switched_fault(
-        "label-lost",
-        "shared_routes/src/labels.rt",
-        "        Some(route) => Ok(Some(route.plain(alloc)?)),\n",
-        "        Some(_) if PLANTED => Ok(None),\n        Some(route) => Ok(Some(route.plain(alloc)?)),\n",
-        "labels are written as none",
-    ),
-    switched_fault(
-        "loop-behind",
-        "shared_routes/src/paths.rt",
-        "            Rest::Shared(path) => path.has(number),\n",
-        "            Rest::Shared(path) => !PLANTED && path.has(number),\n",
-        "a number is looked for at the front of a path alone",
     ),
     switched_fault(
         "best-taken-away",

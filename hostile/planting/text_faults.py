@@ -97,13 +97,6 @@ TEXTS: list[Fault] = [
         "`exact-match` is forgotten",
     ),
     switched_fault(
-        "first-members",
-        "cfg_parse/src/members.rt",
-        "        ended.push(names)?;\n",
-        "        if !PLANTED || ended.is_empty() {\n            ended.push(names)?;\n        }\n",
-        "the members of the groups behind the first one are lost",
-    ),
-    switched_fault(
         "no-end",
         "cfg_parse/src/reading.rt",
         "    Some(last.number)\n",

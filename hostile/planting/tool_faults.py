@@ -51,7 +51,7 @@ FAULTS = [
     _fault(
         "launcher-lock",
         "bonsai",
-        "        fcntl.flock(lock, fcntl.LOCK_EX)\n",
+        "            fcntl.flock(lock, fcntl.LOCK_EX)\n",
         "",
         "runs at once build several times",
         LAUNCHER,

@@ -16,7 +16,7 @@ from pathlib import Path
 from typing import IO
 
 from bonsainet.ask.running import of_this_thread
-from bonsainet.ask.shares import processors, ranges, side_by_side
+from bonsainet.ask.shares import LONGEST_RANGE, processors, ranges, side_by_side
 from bonsainet.ask.where import sum_of
 from bonsainet.cli.command_line import Refused, not_written
 from bonsainet.cli.progress import progress
@@ -132,8 +132,10 @@ def _rounds(answers: Answers, where: Where, lock: Lock, advance: Callable[[int],
     while answers.left and empty < 2:
         before = len(answers.done)
         each = RANGES_EACH if answers.made.then or where.machines else 1
-        # (answers are taken as they come, so a job may answer for all: each reads the text once)
-        parts = ranges(answers.left, where.count * each, len(answers.left))
+        # (here answers are taken as they come, so a job may answer for its whole share, and reads the text once. Where a job
+        # has ended early, and where nobody knows here how many machines there are, shares are short)
+        longest = LONGEST_RANGE if where.machines or answers.failed else len(answers.left)
+        parts = ranges(answers.left, where.count * each, longest)
         if where.machines:
             _elsewhere(answers, parts, where, lock)
         else:
