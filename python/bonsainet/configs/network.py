@@ -14,8 +14,8 @@ from ipaddress import IPv4Address, IPv4Network
 from itertools import permutations
 
 from bonsainet.configs.profile import Device, Interface, Neighbor
-from bonsainet.configs.reading import device_of
-from bonsainet.configs.text import Line, read_text
+from bonsainet.configs.reading import devices_of
+from bonsainet.configs.text import Line
 
 
 @dataclasses.dataclass
@@ -103,12 +103,13 @@ class Network:
 
     def end_at(self, address: IPv4Address) -> End | None:
         """The up interface that has an address."""
-        return self._end_at.get(int(address))
+        found = self._at.get(int(address))
+        return End(*found) if found else None
 
     @functools.cached_property
-    def _end_at(self) -> dict[int, End]:
+    def _at(self) -> dict[int, tuple[Device, Interface]]:
         return {
-            number: End(device, interface) for device in self.devices for number, interface in device.by_address.items()
+            number: (device, interface) for device in self.devices for number, interface in device.by_address.items()
         }
 
     @functools.cached_property
@@ -151,18 +152,18 @@ class Network:
         return [origin for device in self.devices for origin in origins_of(device)]
 
     def _sessions(self) -> list[Link]:
-        at = self._end_at
+        at = self._at
         found, met = [], set()
         # (a session is met at the end whose line comes first, so that all stand in order)
         for device in self.devices:
             met.add(id(device))
             for number, neighbor in device.bgp.by_number.items() if device.bgp else ():
-                far = at.get(number)
-                if far and far.device.bgp and id(far.device) not in met:
-                    near = device.by_subnet.get(far.interface.subnet)
-                    back = far.device.bgp.by_number.get(near.own_numbers[0]) if near else None
-                    if near and back and _agree(device, neighbor, far.device, back):
-                        found.append(Link(End(device, near, neighbor), End(far.device, far.interface, back)))
+                far, there = at.get(number, (None, None))
+                if far and there and far.bgp and id(far) not in met:
+                    near = device.by_subnet.get(there.subnet)
+                    back = far.bgp.by_number.get(near.own_numbers[0]) if near else None
+                    if near and back and _agree(device, neighbor, far, back):
+                        found.append(Link(End(device, near, neighbor), End(far, there, back)))
         return found
 
     def _adjacencies(self) -> list[Link]:
@@ -223,7 +224,7 @@ def is_active(device: Device, interface: Interface) -> bool:
 
 def read_network(text: str, file: str = "F") -> Network:
     """The network of an accepted text. `file` is the name that places of lines carry."""
-    return Network([device_of(router) for router in read_text(text, file)])
+    return Network(devices_of(text, file))
 
 
 def ignored_lines(network: Network) -> Iterator[tuple[Device, Line]]:

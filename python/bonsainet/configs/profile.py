@@ -55,9 +55,7 @@ class Interface:
     @property
     def subnet(self) -> tuple[int, int]:
         """The subnet of an interface that has an address, by its address and its mask as numbers."""
-        number, length = self.own_numbers
-        mask = ALL_BITS >> length ^ ALL_BITS
-        return number & mask, mask
+        return subnet_of(*self.own_numbers)
 
     @property
     def is_up(self) -> bool:
@@ -238,12 +236,24 @@ class Device:
     @functools.cached_property
     def by_address(self) -> dict[int, Interface]:
         """The interfaces that are up by their addresses as numbers. Nothing changes a device that is read."""
-        return {interface.own_numbers[0]: interface for interface in self.up_interfaces}
+        return {
+            interface.given[0]: interface for interface in self.interfaces if interface.given and not interface.is_shut
+        }
 
     @functools.cached_property
     def by_subnet(self) -> dict[tuple[int, int], Interface]:
         """The interfaces that are up by their subnets."""
-        return {interface.subnet: interface for interface in self.up_interfaces}
+        return {
+            subnet_of(*interface.given): interface
+            for interface in self.interfaces
+            if interface.given and not interface.is_shut
+        }
+
+
+def subnet_of(number: int, length: int) -> tuple[int, int]:
+    """The subnet of an address and the length of its mask: its address and its mask, as numbers."""
+    mask = ALL_BITS >> length ^ ALL_BITS
+    return number & mask, mask
 
 
 def community(word: str) -> int:

@@ -21,26 +21,48 @@ from bonsainet.configs.profile import (
     PrefixEntry,
     community,
 )
-from bonsainet.configs.text import Line, Router, Stanza
+from bonsainet.configs.text import INDENTS, Line, Router, Stanza, is_blank, unread_lines_of
+
+END = ["end"]
 
 
 def device_of(router: Router) -> Device:
     """What the lines of an accepted router give."""
-    reader = _Reader(Device(router.name, next(iter(router.lines))))
+    reader = _Reader(next(iter(router.lines)))
     for stanza in router.stanzas:
         reader.take(stanza)
-    for listed in reader.device.prefix_lists.values():
-        listed.sort(key=lambda entry: entry.sequence)
-    for entries in reader.device.maps.values():
-        entries.sort(key=lambda entry: entry.sequence)
-    return reader.device
+    reader.device.name = router.name
+    return reader.done()
+
+
+def devices_of(text: str, file: str) -> list[Device]:
+    """What the lines of an accepted text give, router by router, in one go: as `device_of` gives it of each router."""
+    found: list[Device] = []
+    reader: _Reader | None = None
+    has_words = False
+    for line in unread_lines_of(text, file):
+        words, is_top = line.text.split(), line.text[:1] not in INDENTS
+        if reader is None:
+            # (an indented line is in the stanza above it, be that a comment, but for the first one)
+            reader, has_words = _Reader(line), not is_top and not is_blank(words)
+        if is_top and words == END:
+            found.append(reader.done())
+            reader = None
+        elif is_blank(words):
+            reader.take_comment(words)
+        elif is_top:
+            has_words = True
+            reader.take_top(line, words)
+        else:
+            reader.take_indented(line, words)
+    return found + ([reader.done()] if reader and has_words else [])
 
 
 class _Reader:
     """Takes the lines of a router in order, and keeps which stanza is open."""
 
-    def __init__(self, device: Device) -> None:
-        self.device = device
+    def __init__(self, first: Line) -> None:
+        self.device = Device("", first)
         self.take_indented: Callable[[Line, list[str]], None] = self._ignore
         self.neighbors: dict[str, Neighbor] = {}
 
@@ -49,15 +71,21 @@ class _Reader:
         if head.is_blank or head.is_indented:
             lines = stanza.lines
         else:
-            self.take_indented = self._ignore
-            self._top(head, head.words)
+            self.take_top(head, head.words)
         for line in lines:
             if line.is_blank:
-                self._comment(line.words)
+                self.take_comment(line.words)
             else:
                 self.take_indented(line, line.words)
 
-    def _comment(self, words: list[str]) -> None:
+    def done(self) -> Device:
+        for listed in self.device.prefix_lists.values():
+            listed.sort(key=lambda entry: entry.sequence)
+        for entries in self.device.maps.values():
+            entries.sort(key=lambda entry: entry.sequence)
+        return self.device
+
+    def take_comment(self, words: list[str]) -> None:
         if words[:2] == ["!", "member"] and len(words) == 3:
             self.device.members.append(words[2])
         self.device.is_stub |= words[:3] == ["!", "assumed:", "a"] and words[-1] == "(--stub)"
@@ -65,11 +93,11 @@ class _Reader:
     def _ignore(self, line: Line, words: list[str]) -> None:
         self.device.ignored.append(line)
 
-    def _top(self, line: Line, words: list[str]) -> None:
-        device = self.device
+    def take_top(self, line: Line, words: list[str]) -> None:
+        device, self.take_indented = self.device, self._ignore
         match words:
-            case ["hostname", _]:
-                device.line = line
+            case ["hostname", name]:
+                device.name, device.line = device.name or name, line
             case ["interface", name]:
                 device.interfaces.append(Interface(name, line))
                 self.take_indented = self._interface

@@ -15,6 +15,7 @@ from typing import Any, ClassVar, NamedTuple, TypeVar
 Item = TypeVar("Item")
 Found = TypeVar("Found")
 
+INDENTS = (" ", "\t")
 # What ends a router: a top line of this one word.
 END = re.compile(r"^(?![ \t])[^\S\n]*end[^\S\n]*$", re.MULTILINE)
 
@@ -34,7 +35,12 @@ def _read(text: str) -> tuple[list[str], bool]:
     """The words of a line, and whether it has none or is a comment. Configurations repeat their lines, and lines of one
     text share the list."""
     words = text.split()
-    return words, not words or words[0][0] == "!"
+    return words, is_blank(words)
+
+
+def is_blank(words: list[str]) -> bool:
+    """Whether a line has no words or is a comment."""
+    return not words or words[0][0] == "!"
 
 
 # (a place without the check that it has a file and a line, for the many lines of a text)
@@ -67,11 +73,27 @@ class Line:
     @property
     def is_indented(self) -> bool:
         """Whether the line belongs to the stanza above it."""
-        return self.text[:1] in (" ", "\t")
+        return self.text[:1] in INDENTS
 
     def with_text(self, text: str) -> Line:
         """The same place with another text."""
         return Line(text, self.place)
+
+
+class _Unread(Line):
+    """A line whose words are split where somebody asks for them: of most lines nobody does, once they are read."""
+
+    __slots__ = ()
+
+    def __init__(self, text: str, place: Place) -> None:  # pylint: disable=super-init-not-called
+        self.text = text
+        self.place = place
+
+    def __getattr__(self, name: str) -> Any:
+        if name not in ("words", "is_blank"):
+            raise AttributeError(name)
+        self.words, self.is_blank = _read(self.text)
+        return getattr(self, name)
 
 
 class Kept(list[Item]):
@@ -224,10 +246,19 @@ class Router:
 
 def lines_of(text: str, file: str, first: int = 1) -> list[Line]:
     """The lines of a text, of which the first has this number. A carriage return before the end of a line is no part of it."""
+    return list(_lines(Line, text, file, first))
+
+
+def unread_lines_of(text: str, file: str) -> Iterator[Line]:
+    """The same, for who takes the words of each line from its text, once."""
+    return _lines(_Unread, text, file, 1)
+
+
+def _lines(kind: type[Line], text: str, file: str, first: int) -> Iterator[Line]:
     texts = text.removesuffix("\n").split("\n")
     if "\r" in text:
         texts = [line.removesuffix("\r") for line in texts]
-    return list(map(Line, texts, map(_unchecked, repeat(Place), zip(repeat(file), count(first)))))
+    return map(kind, texts, map(_unchecked, repeat(Place), zip(repeat(file), count(first))))
 
 
 def router_texts(text: str) -> Iterator[tuple[int, str]]:
