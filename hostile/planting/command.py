@@ -244,9 +244,10 @@ def _all(
         print("".join(f"{fault.name:22} {fault.layer}: {fault.means}\n" for fault in chosen), end="")
         return 0
     missed = failed = 0
-    for fault in list(chosen) if building else []:
+    for fault in list(chosen):
         try:
-            building(fault, given)
+            if building:
+                building(fault, given)
         except Unfit as why:
             failed += 1
             chosen.remove(fault)
