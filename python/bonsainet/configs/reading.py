@@ -43,7 +43,7 @@ def devices_of(text: str, file: str) -> list[Device]:
     for line in unread_lines_of(text, file):
         words, is_top = line.text.split(), line.text[:1] not in INDENTS
         if reader is None:
-            # (an indented line is in the stanza above it, be that a comment, but for the first one)
+            # (an indented line is in the stanza above it, which may be a comment; the first line is in none)
             reader, has_words = _Reader(line), not is_top and not is_blank(words)
         if is_top and words == END:
             found.append(reader.done())

@@ -116,6 +116,26 @@ def test_a_class_at_which_a_job_ends_is_told_and_the_others_are_asked(tmp_path: 
     assert (folder / "class-9.cfg.err").read_bytes() == b"out of memory\n"
 
 
+def test_shares_that_begin_with_classes_that_end_a_job_are_asked(tmp_path: Path) -> None:
+    """Each of both jobs ends without a word at the first two classes of its share."""
+    ending = tmp_path / "ending.py"
+    ending.write_text(
+        "import sys\n"
+        "for number in range(int(sys.argv[3]), int(sys.argv[4]) + 1):\n"
+        "    if number in (1, 2, 101, 102):\n"
+        "        sys.exit(3)\n"
+        "    print(f'class {number} 0 3\\nend', end='', flush=True)\n"
+    )
+    folder = tmp_path / "all"
+    folder.mkdir()
+    (folder / "bonsai-all").write_text(f"#!/bin/sh\nexec {sys.executable} {ending} $*\n")
+    (folder / "bonsai-all").chmod(0o755)
+    made = Plan("compress", "", 200, "", sum_of(folder / "bonsai-all"))
+    with Lock(folder) as lock:
+        assert run(folder, made, ending, Where(jobs="2"), lock) == 4
+    assert len(list(folder.glob("class-*.cfg"))) == 196
+
+
 def test_what_is_no_frame_is_told(tmp_path: Path) -> None:
     (tmp_path / "bonsai-all").write_text("#!/bin/sh\necho no frame\n")
     (tmp_path / "bonsai-all").chmod(0o755)
