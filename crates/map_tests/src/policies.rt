@@ -2,6 +2,7 @@
 
 use base_kit::{List, NoMemory, NumSet, Prefix, Text};
 use cfg_ast::{BgpProcess, CommunityLine, CommunityList, MapEntry, NameLine, RouteMap, Router};
+use route_maps::{Plain, PlainEntry};
 use specialize::{places_of, policy, policy_at, route_map_at};
 use std::alloc::Global;
 
@@ -94,6 +95,81 @@ fn router_with(alloc: Global, route_maps: List<RouteMap>) -> Result<Router, NoMe
     })
 }
 
+// Whether an entry has that number, permits or not, and changes nothing.
+fn changes_nothing(entry: &PlainEntry, seq: u32, permit: bool) -> bool {
+    entry.seq == seq
+        && entry.permit == permit
+        && entry.lp.is_none()
+        && entry.change.is_none()
+        && entry.delete.is_none()
+        && !entry.exact
+        && entry.adds == 0
+}
+
+// Whether the lists are one list, with the line of L.
+fn are_list_l(lists: &[CommunityList]) -> bool {
+    match lists {
+        [list] => match list.lines.as_slice() {
+            [line] => line.permit && line.comms.as_slice() == [ONE_ONE].as_slice(),
+            _ => false,
+        },
+        _ => false,
+    }
+}
+
+fn matches_list_l(entry: &PlainEntry) -> bool {
+    match &entry.lists {
+        Some(lists) => are_list_l(lists.as_slice()),
+        None => false,
+    }
+}
+
+// Whether the map is X, written out.
+fn is_map_x(plain: &Plain) -> bool {
+    match plain.entries.as_slice() {
+        [first, second] => {
+            changes_nothing(first, 10, false)
+                && matches_list_l(first)
+                && changes_nothing(second, 20, true)
+                && second.lists.is_none()
+        }
+        _ => false,
+    }
+}
+
+fn has_one_entry(plain: &Plain, seq: u32) -> bool {
+    match plain.entries.as_slice() {
+        [entry] => entry.seq == seq,
+        _ => false,
+    }
+}
+
+fn begins_with(map: &RouteMap, seq: u32) -> bool {
+    match map.entries.as_slice() {
+        [entry, ..] => entry.seq == seq,
+        [] => false,
+    }
+}
+
+// Whether the map of a name is the one whose only entry has that number, or there is none.
+fn is_found(
+    alloc: Global,
+    router: &Router,
+    name: &str,
+    seq: Option<u32>,
+) -> Result<bool, NoMemory> {
+    let places = places_of(alloc, router)?;
+    let name = text_of(alloc, name)?;
+    let prefix = Prefix::new(0x0A00_0000, 24);
+    let plain = policy_at(alloc, router, &places, Some(&name), None, prefix, false)?;
+    let is_right = match (route_map_at(router, &places, &name), seq) {
+        (Some(map), Some(seq)) => begins_with(map, seq) && has_one_entry(&plain, seq),
+        (None, None) => plain.entries.as_slice().is_empty(),
+        _ => false,
+    };
+    Ok(is_right)
+}
+
 #[test]
 fn a_map_is_written_out_for_a_prefix(rt: HostRuntime) -> Result<(), NoMemory> {
     let alloc = rt.alloc();
@@ -101,27 +177,7 @@ fn a_map_is_written_out_for_a_prefix(rt: HostRuntime) -> Result<(), NoMemory> {
     let name = text_of(alloc, "X")?;
     let prefix = Prefix::new(0x0A00_0000, 24);
     let plain = policy(alloc, &router, Some(&name), None, prefix, true)?;
-    let entries = plain.entries.as_slice();
-    assert_eq!(rt; entries.len(), 2);
-    for (entry, (seq, permit)) in entries.iter().zip([(10, false), (20, true)]) {
-        assert_eq!(rt; entry.seq, seq);
-        assert_eq!(rt; entry.permit, permit);
-        assert_eq!(rt; entry.lp, None);
-        assert!(rt; entry.change.is_none() && entry.delete.is_none());
-        assert!(rt; !entry.exact);
-        assert_eq!(rt; entry.adds, 0);
-    }
-    match &entries[0].lists {
-        Some(lists) => {
-            assert_eq!(rt; lists.as_slice().len(), 1);
-            let lines = lists.as_slice()[0].lines.as_slice();
-            assert_eq!(rt; lines.len(), 1);
-            assert!(rt; lines[0].permit);
-            assert_eq!(rt; lines[0].comms.as_slice(), [ONE_ONE].as_slice());
-        }
-        None => assert!(rt; false, "no list"),
-    }
-    assert!(rt; entries[1].lists.is_none());
+    assert!(rt; is_map_x(&plain));
     Ok(())
 }
 
@@ -133,22 +189,9 @@ fn the_first_map_of_a_name_is_found(rt: HostRuntime) -> Result<(), NoMemory> {
         route_maps.push(map_of_one(alloc, name, seq)?)?;
     }
     let router = router_with(alloc, route_maps)?;
-    let places = places_of(alloc, &router)?;
-    let prefix = Prefix::new(0x0A00_0000, 24);
-    for (name, seq) in [("X", 40), ("Y", 30)] {
-        let name = text_of(alloc, name)?;
-        let plain = policy_at(alloc, &router, &places, Some(&name), None, prefix, false)?;
-        let entries = plain.entries.as_slice();
-        assert_eq!(rt; entries.len(), 1);
-        assert_eq!(rt; entries[0].seq, seq);
-        match route_map_at(&router, &places, &name) {
-            Some(map) => assert_eq!(rt; map.entries.as_slice()[0].seq, seq),
-            None => assert!(rt; false, "no map"),
-        }
+    for (name, seq) in [("X", Some(40)), ("Y", Some(30)), ("Z", None)] {
+        let is_found = is_found(alloc, &router, name, seq)?;
+        assert!(rt; is_found, "{name}");
     }
-    let name = text_of(alloc, "Z")?;
-    assert!(rt; route_map_at(&router, &places, &name).is_none());
-    let plain = policy_at(alloc, &router, &places, Some(&name), None, prefix, false)?;
-    assert!(rt; plain.entries.as_slice().is_empty());
     Ok(())
 }

@@ -1,4 +1,6 @@
 //! Files and outputs that fail at a call, that take few bytes at once, or that never fail.
+ghost use Rattle.std.specs.Prelude.{◌≤◌};
+
 use crate::answer::answer;
 use crate::ring::ring;
 use base_kit::List;
@@ -31,48 +33,47 @@ fn sink(alloc: Global, failing: List<u64>) -> Result<MemSink, Fail> {
     Ok(sink)
 }
 
-// What `check` answers of the ring's stable solution, where a call of the files fails, and what it wrote.
-fn check_ring(alloc: Global, call: u64) -> Result<(Status, MemSink, MemSink), Fail> {
-    let mut files = ring_failing_at(alloc, call)?;
-    let mut out = sink(alloc, no_call(alloc))?;
+/// A status, and what was written to either output.
+type Outcome = (Status, MemSink, MemSink);
+
+// What is answered to these words where the output takes so many bytes at once and fails at these calls.
+fn outcome_by<S: Source>(
+    alloc: Global,
+    list: &[&str],
+    files: &mut S,
+    most: usize,
+    failing: List<u64>,
+) -> Result<Outcome, Fail>
+    requires { 1 ≤ most }
+{
+    let mut out = MemSink::new(alloc, most, 4096, failing)?;
     let mut err = sink(alloc, no_call(alloc))?;
-    let status = answer(
-        alloc,
-        &["check", "F", "1", "S"],
-        &mut files,
-        &mut out,
-        &mut err,
-    )?;
+    let status = answer(alloc, list, files, &mut out, &mut err)?;
     Ok((status, out, err))
 }
 
+// The same where the output never fails.
+fn outcome<S: Source>(alloc: Global, list: &[&str], files: &mut S) -> Result<Outcome, Fail> {
+    outcome_by(alloc, list, files, 4096, no_call(alloc))
+}
+
+// What `check` answers of the ring's stable solution, where a call of the files fails.
+fn check_ring(alloc: Global, call: u64) -> Result<Outcome, Fail> {
+    let mut files = ring_failing_at(alloc, call)?;
+    outcome(alloc, &["check", "F", "1", "S"], &mut files)
+}
+
 // The same, where the output takes three bytes at once and fails at a call.
-fn check_ring_in_threes(alloc: Global, call: u64) -> Result<(Status, MemSink, MemSink), Fail> {
+fn check_ring_in_threes(alloc: Global, call: u64) -> Result<Outcome, Fail> {
+    let failing = one_call(alloc, call)?;
     let mut files = MemSource::new(ring(alloc)?, no_call(alloc));
-    let mut out = MemSink::new(alloc, 3, 4096, one_call(alloc, call)?)?;
-    let mut err = sink(alloc, no_call(alloc))?;
-    let status = answer(
-        alloc,
-        &["check", "F", "1", "S"],
-        &mut files,
-        &mut out,
-        &mut err,
-    )?;
-    Ok((status, out, err))
+    outcome_by(alloc, &["check", "F", "1", "S"], &mut files, 3, failing)
 }
 
 #[test]
 fn words_of_no_form_are_misuse(rt: HostRuntime) -> Result<(), Fail> {
     let alloc = rt.alloc();
-    let mut out = sink(alloc, no_call(alloc))?;
-    let mut err = sink(alloc, no_call(alloc))?;
-    let status = answer(
-        alloc,
-        &["groups", "F"],
-        &mut no_files(alloc),
-        &mut out,
-        &mut err,
-    )?;
+    let (status, out, _err) = outcome(alloc, &["groups", "F"], &mut no_files(alloc))?;
     assert_eq!(rt; status, Status::Usage);
     assert!(rt; out.taken().is_empty());
     Ok(())
@@ -81,15 +82,7 @@ fn words_of_no_form_are_misuse(rt: HostRuntime) -> Result<(), Fail> {
 #[test]
 fn a_file_that_is_not_there_is_named(rt: HostRuntime) -> Result<(), Fail> {
     let alloc = rt.alloc();
-    let mut out = sink(alloc, no_call(alloc))?;
-    let mut err = sink(alloc, no_call(alloc))?;
-    let status = answer(
-        alloc,
-        &["classes", "F"],
-        &mut no_files(alloc),
-        &mut out,
-        &mut err,
-    )?;
+    let (status, _out, err) = outcome(alloc, &["classes", "F"], &mut no_files(alloc))?;
     assert_eq!(rt; status, Status::ReadFault);
     assert_eq!(rt; err.taken(), b"read fault: F\n".as_slice());
     Ok(())
@@ -98,15 +91,8 @@ fn a_file_that_is_not_there_is_named(rt: HostRuntime) -> Result<(), Fail> {
 #[test]
 fn an_output_that_fails_is_told_on_err(rt: HostRuntime) -> Result<(), Fail> {
     let alloc = rt.alloc();
-    let mut out = MemSink::new(alloc, 3, 4096, one_call(alloc, 2)?)?;
-    let mut err = sink(alloc, no_call(alloc))?;
-    let status = answer(
-        alloc,
-        &["trial", "4"],
-        &mut no_files(alloc),
-        &mut out,
-        &mut err,
-    )?;
+    let second = one_call(alloc, 2)?;
+    let (status, out, err) = outcome_by(alloc, &["trial", "4"], &mut no_files(alloc), 3, second)?;
     assert_eq!(rt; status, Status::WriteFault);
     assert_eq!(rt; out.taken(), b"cla".as_slice());
     assert_eq!(rt; err.taken(), b"write fault\n".as_slice());
@@ -117,9 +103,7 @@ fn an_output_that_fails_is_told_on_err(rt: HostRuntime) -> Result<(), Fail> {
 fn a_file_that_fails_at_once_is_named(rt: HostRuntime) -> Result<(), Fail> {
     let alloc = rt.alloc();
     let mut files = ring_failing_at(alloc, 1)?;
-    let mut out = sink(alloc, no_call(alloc))?;
-    let mut err = sink(alloc, no_call(alloc))?;
-    let status = answer(alloc, &["groups", "F", "1"], &mut files, &mut out, &mut err)?;
+    let (status, out, err) = outcome(alloc, &["groups", "F", "1"], &mut files)?;
     assert_eq!(rt; status, Status::ReadFault);
     assert!(rt; out.taken().is_empty());
     assert_eq!(rt; err.taken(), b"read fault: F\n".as_slice());
@@ -129,16 +113,9 @@ fn a_file_that_fails_at_once_is_named(rt: HostRuntime) -> Result<(), Fail> {
 #[test]
 fn an_output_that_fails_keeps_the_first_bytes(rt: HostRuntime) -> Result<(), Fail> {
     let alloc = rt.alloc();
+    let second = one_call(alloc, 2)?;
     let mut files = MemSource::new(ring(alloc)?, no_call(alloc));
-    let mut out = MemSink::new(alloc, 10, 4096, one_call(alloc, 2)?)?;
-    let mut err = sink(alloc, no_call(alloc))?;
-    let status = answer(
-        alloc,
-        &["compress", "F", "1"],
-        &mut files,
-        &mut out,
-        &mut err,
-    )?;
+    let (status, out, err) = outcome_by(alloc, &["compress", "F", "1"], &mut files, 10, second)?;
     assert_eq!(rt; status, Status::WriteFault);
     assert_eq!(rt; out.taken(), b"hostname a".as_slice());
     assert_eq!(rt; err.taken(), b"write fault\n".as_slice());
@@ -204,9 +181,7 @@ fn misuse_reads_no_file(rt: HostRuntime) -> Result<(), Fail> {
 fn a_sure_source_without_the_file_has_an_empty_one(rt: HostRuntime) -> Result<(), Fail> {
     let alloc = rt.alloc();
     let mut files = SureSource::new(List::new(alloc));
-    let mut out = sink(alloc, no_call(alloc))?;
-    let mut err = sink(alloc, no_call(alloc))?;
-    let status = answer(alloc, &["classes", "F"], &mut files, &mut out, &mut err)?;
+    let (status, out, err) = outcome(alloc, &["classes", "F"], &mut files)?;
     assert_eq!(rt; status, Status::Done);
     assert!(rt; out.taken().is_empty());
     assert!(rt; err.taken().is_empty());
