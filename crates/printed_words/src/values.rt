@@ -1,10 +1,10 @@
-//! Numbers, addresses, prefixes and communities as text.
+//! Numbers, addresses and prefixes at the end of a text.
 
 ghost use Rattle.std.specs.Prelude.{◌≡◌, ◌++◌, OnOk, OnErr, string_bytes};
 ghost use Rattle.std.specs.Fmt.{decimal};
-ghost use Rattle.cfg_ast.specs.printing.Printed.{address_text, prefix_text, community_text};
+ghost use Rattle.cfg_ast.specs.printing.Printed.{address_text, prefix_text};
 
-use crate::pieces::{Piece, add_address, add_community, add_prefix};
+use crate::pieces::{Piece, add_address, add_prefix};
 use base_kit::Prefix;
 use itoa::Buffer;
 use std::alloc::AllocError;
@@ -35,15 +35,5 @@ pub fn put_prefix(text: &mut String, prefix: &Prefix) -> Result<(), AllocError>
 {
     let mut piece = Piece::new();
     add_prefix(&mut piece, prefix);
-    text.push_str(piece.as_str())
-}
-
-/// Appends a community: its two halves joined by a colon.
-pub fn put_community(text: &mut String, community: u32) -> Result<(), AllocError>
-    ensures ok { OnOk result (string_bytes text.new ≡ string_bytes text.old ++ community_text community) }
-    ensures err { OnErr result (string_bytes text.new ≡ string_bytes text.old) }
-{
-    let mut piece = Piece::new();
-    add_community(&mut piece, community);
     text.push_str(piece.as_str())
 }
