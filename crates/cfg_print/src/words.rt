@@ -1,4 +1,5 @@
-//! The words of an act, the line of one `!`, and texts as they are.
+//! What printed lines share: texts as they are, a name or a number at the end of a line, the words of
+//! an act, and the line of one `!`.
 
 ghost use Rattle.std.specs.Prelude.{◌≡◌, ◌≤◌, ◌++◌, ◌∷◌, [], OnOk, string_bytes, length};
 ghost use Rattle.std.specs.Fmt.{decimal};
