@@ -84,9 +84,35 @@ fn are_many(text: &[u8]) -> bool {
     false
 }
 
+// How many bytes a line shares with the one before it, up to 255.
+fn shared(before: &[u8], line: &[u8]) -> u8 {
+    let mut count: u8 = 0;
+    for (earlier, later) in before.iter().zip(line.iter()) {
+        if count == 255 || *earlier != *later {
+            return count;
+        }
+        count += 1;
+    }
+    count
+}
+
+// Adds a line to the digest: how many bytes it shares with the one before it, and its others. That is
+// little where names count up, and still says each byte of each line: the count is one byte, no line has
+// a line feed, and the digest puts one behind both, so from the start each line can be told by the one
+// before it.
+fn add_line(names: &mut NameDigest, before: &[u8], line: &[u8]) {
+    let count = shared(before, line);
+    names.add(&[count]);
+    match line.get(usize::from(count)..) {
+        Some(others) => names.add(others),
+        None => names.add(line),
+    }
+}
+
 // The digest of the lines that may name something, up to the line `end`.
 fn digest_of(text: &[u8]) -> NameDigest {
     let mut names = NameDigest::new();
+    let mut before: &[u8] = &[];
     let mut from = 0;
     for upto in memchr_iter(b'\n', text) {
         let Some(line) = text.get(from..upto) else {
@@ -96,7 +122,8 @@ fn digest_of(text: &[u8]) -> NameDigest {
             return names;
         }
         if may_name(line) {
-            names.add(line);
+            add_line(&mut names, before, line);
+            before = line;
         }
         from = upto.wrapping_add(1);
     }
