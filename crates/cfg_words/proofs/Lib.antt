@@ -1,2 +1,3 @@
+pub mod CommonHeads
 pub mod Longest
 pub mod Begun

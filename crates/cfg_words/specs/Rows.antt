@@ -11,6 +11,10 @@ rows_of heads = map row_of heads
 
 -- ---- by the first byte of a line
 
+-- the first word, and no bytes where there is none
+abbrev pub first_word : List (List ℕ) → List ℕ
+first_word words = get_or words 0 []
+
 -- the first byte of the first word, and 0 where there is none
 abbrev pub first_byte : List (List ℕ) → ℕ
 first_byte words = get_or (get_or words 0 []) 0 0

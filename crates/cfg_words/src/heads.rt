@@ -3,10 +3,11 @@
 ghost use Rattle.std.specs.Prelude.{◌≡◌, ◌++◌, length, map, drop, if◌then◌else◌, Some, bytes_eq};
 ghost use Rattle.std.specs.List.{AllByRecursion};
 ghost use Rattle.std.specs.Option.{option_map};
-ghost use Rattle.cfg_ast.specs.text.Heads.{is_word_for, begins, longest, longer, class_in, heads_of, policy_heads_of, top_heads, interface_heads, bgp_heads};
+ghost use Rattle.cfg_ast.specs.text.Heads.{is_word_for, begins, longest, longer, class_in, heads_of, policy_heads_of, top_heads, interface_heads, bgp_heads, ospf_heads, entry_heads};
 ghost use Rattle.cfg_ast.specs.text.Lines.{IsWordIn, texts};
 ghost use Rattle.cfg_words.specs.Rows.{row_of, rows_of, first_byte};
 
+use crate::common_heads;
 use crate::numbers::read_between;
 use crate::tables::{bgp, entry, interface, ospf, top};
 use crate::words::text;
@@ -130,6 +131,9 @@ fn top_class(bytes: &[u8], words: &[Span]) -> Option<HeadClass>
     requires { AllByRecursion (IsWordIn bytes.now) words.now }
     ensures { result ≡ class_in top_heads (texts bytes.now words.now) }
 {
+    if let Some(class) = common_heads::top_class(bytes, words) {
+        return Some(class);
+    }
     let rows = top::begun_by(first_byte(bytes, words), second_byte(bytes, words));
     class_among(rows, bytes, words)
 }
@@ -138,6 +142,9 @@ fn interface_class(bytes: &[u8], words: &[Span]) -> Option<HeadClass>
     requires { AllByRecursion (IsWordIn bytes.now) words.now }
     ensures { result ≡ class_in interface_heads (texts bytes.now words.now) }
 {
+    if let Some(class) = common_heads::interface_class(bytes, words) {
+        return Some(class);
+    }
     let rows = interface::begun_by(first_byte(bytes, words), second_byte(bytes, words));
     class_among(rows, bytes, words)
 }
@@ -146,13 +153,38 @@ fn bgp_class(bytes: &[u8], words: &[Span]) -> Option<HeadClass>
     requires { AllByRecursion (IsWordIn bytes.now) words.now }
     ensures { result ≡ class_in bgp_heads (texts bytes.now words.now) }
 {
+    if let Some(class) = common_heads::bgp_class(bytes, words) {
+        return Some(class);
+    }
     let rows = bgp::begun_by(first_byte(bytes, words), third_byte(bytes, words));
     class_among(rows, bytes, words)
 }
 
+#[tactic(auto, using(crate::proofs::Longest::class_begun))]
+fn ospf_class(bytes: &[u8], words: &[Span]) -> Option<HeadClass>
+    requires { AllByRecursion (IsWordIn bytes.now) words.now }
+    ensures { result ≡ class_in ospf_heads (texts bytes.now words.now) }
+{
+    if let Some(class) = common_heads::ospf_class(bytes, words) {
+        return Some(class);
+    }
+    class_among(ospf::begun_by(first_byte(bytes, words)), bytes, words)
+}
+
+#[tactic(auto, using(crate::proofs::Longest::class_begun))]
+fn entry_class(bytes: &[u8], words: &[Span]) -> Option<HeadClass>
+    requires { AllByRecursion (IsWordIn bytes.now) words.now }
+    ensures { result ≡ class_in entry_heads (texts bytes.now words.now) }
+{
+    if let Some(class) = common_heads::entry_class(bytes, words) {
+        return Some(class);
+    }
+    class_among(entry::begun_by(first_byte(bytes, words)), bytes, words)
+}
+
 /// What the longest head that begins the line says of it, in a scope of router lines. `None` where no
 /// head of the scope's tables begins it.
-#[tactic(auto, using(crate::proofs::Longest::class_begun), unfolding(cfg_ast::specs::text::Heads::heads_of))]
+#[tactic(auto, unfolding(cfg_ast::specs::text::Heads::heads_of))]
 pub fn router_class(bytes: &[u8], words: &[Span], scope: Scope) -> Option<HeadClass>
     requires { AllByRecursion (IsWordIn bytes.now) words.now }
     ensures { result ≡ class_in (heads_of scope) (texts bytes.now words.now) }
@@ -161,18 +193,18 @@ pub fn router_class(bytes: &[u8], words: &[Span], scope: Scope) -> Option<HeadCl
         Scope::Top => top_class(bytes, words),
         Scope::Interface => interface_class(bytes, words),
         Scope::Bgp => bgp_class(bytes, words),
-        Scope::Ospf => class_among(ospf::begun_by(first_byte(bytes, words)), bytes, words),
+        Scope::Ospf => ospf_class(bytes, words),
     }
 }
 
 /// The same in a scope of policy lines.
-#[tactic(auto, using(crate::proofs::Longest::class_begun), unfolding(cfg_ast::specs::text::Heads::policy_heads_of))]
+#[tactic(auto, unfolding(cfg_ast::specs::text::Heads::policy_heads_of))]
 pub fn policy_class(bytes: &[u8], words: &[Span], scope: PolicyScope) -> Option<HeadClass>
     requires { AllByRecursion (IsWordIn bytes.now) words.now }
     ensures { result ≡ class_in (policy_heads_of scope) (texts bytes.now words.now) }
 {
     match scope {
         PolicyScope::Top => top_class(bytes, words),
-        PolicyScope::Entry => class_among(entry::begun_by(first_byte(bytes, words)), bytes, words),
+        PolicyScope::Entry => entry_class(bytes, words),
     }
 }

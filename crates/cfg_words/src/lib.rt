@@ -2,12 +2,14 @@
 //!
 //! A head is the words that a line begins with. `router_class` and `policy_class` look in the tables of
 //! a scope for the longest head that begins the line, and answer what the definitions say of that head:
-//! its form, or that it is refused or ignored. A line is compared only with the heads that begin with
-//! its first byte, and in the longest tables only with those that also fit the first byte of its second
-//! or third word: the tables are constants, each equal to what the table of the definitions has for
-//! those bytes. The other calls read single words, exactly by their definitions.
+//! its form, or that it is refused or ignored. The heads that texts have most of are told at once. Any
+//! other line is compared only with the heads that begin with its first byte, and in the longest tables
+//! only with those that also fit the first byte of its second or third word: the tables are constants,
+//! each equal to what the table of the definitions has for those bytes. The other calls read single
+//! words, exactly by their definitions.
 #![tactic(auto)]
 
+mod common_heads;
 mod communities;
 mod device_names;
 mod heads;
