@@ -3,9 +3,10 @@
 ghost use Rattle.std.specs.Prelude.{◌≡◌, ◌∷◌, ◌++◌, [], IfOk, OnOk, OnErr, bytes_eq};
 ghost use Rattle.std.specs.List.{list_any};
 
-use crate::room::pushed;
+use crate::places::Places;
+use crate::room::fitted;
 use base_kit::{List, NoMemory};
-use numbered_names::{HasName, NameHashing, NamePlaces};
+use numbered_names::{HasName, NameHashing};
 use std::alloc::Global;
 use std::marker::Model;
 
@@ -13,18 +14,18 @@ use std::marker::Model;
 #[derive(Drop)]
 pub struct ByName<T: HasName + Drop> {
     items: List<T>,
-    places: NamePlaces,
+    places: Places,
 }
 
 impl<T: HasName + Drop> Model for ByName<T> {
     ghost use Rattle.std.specs.Prelude.{List};
-    ghost use Rattle.numbered_names.specs.NamePlaces.{ArePlacesOf};
+    ghost use Rattle.named_lists.specs.Tables.{IsTableOf};
 
     ghost Value = { List T };
 
     ghost view = { λ a. a.items };
 
-    ghost invariant = { λ a. ArePlacesOf T.name a.places a.items };
+    ghost invariant = { λ a. IsTableOf T.name a.items a.places.table };
 }
 
 impl<T: HasName + Drop> ByName<T> {
@@ -34,7 +35,7 @@ impl<T: HasName + Drop> ByName<T> {
     {
         ByName {
             items: List::new(alloc),
-            places: NamePlaces::new(alloc, hashing),
+            places: Places::new(hashing),
         }
     }
 
@@ -42,16 +43,19 @@ impl<T: HasName + Drop> ByName<T> {
     pub fn has(&self, name: &str) -> bool
         ensures { result ≡ list_any (λ x. bytes_eq (T.name x) name.now) self.now }
     {
-        self.places.place_of(name).is_some()
+        self.places.place_of(self.items.as_slice(), name).is_some()
     }
 
     // Those, and another one behind them.
     fn with(self, alloc: Global, item: T) -> Result<Self, NoMemory>
         ensures { IfOk result (λ all. all ≡ self ++ item ∷ []) }
     {
-        let ByName { items, mut places } = self;
+        let ByName {
+            mut items,
+            mut places,
+        } = self;
         places.note(alloc, items.as_slice(), &item)?;
-        let items = pushed(items, item)?;
+        items.push(item)?;
         Ok(ByName { items, places })
     }
 
@@ -73,6 +77,6 @@ impl<T: HasName + Drop> ByName<T> {
         ensures { result ≡ self }
     {
         let ByName { items, .. } = self;
-        items
+        fitted(items.into_vec())
     }
 }

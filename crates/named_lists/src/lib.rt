@@ -10,6 +10,7 @@ mod by_name;
 mod named;
 mod numbered;
 mod numbers;
+mod places;
 mod room;
 
 pub use by_name::ByName;

@@ -4,9 +4,10 @@ ghost use Rattle.std.specs.Prelude.{◌≡◌, ◌<◌, ◌∷◌, ◌++◌, [],
 ghost use Rattle.std.specs.List.{position};
 ghost use Rattle.named_lists.specs.NamedLists.{list_at, entries_at, with_last, in_named};
 
+use crate::places::Places;
 use crate::room::pushed;
 use base_kit::{List, NoMemory, Text};
-use numbered_names::{HasName, NameHashing, NamePlaces};
+use numbered_names::{HasName, NameHashing};
 use std::alloc::Global;
 use std::marker::Model;
 
@@ -29,20 +30,20 @@ impl<E: Drop> HasName for NamedList<E> {
 #[derive(Drop)]
 pub struct NamedLists<E: Drop> {
     lists: Vec<NamedList<E>>,
-    places: NamePlaces,
+    places: Places,
 }
 
 impl<E: Drop> Model for NamedLists<E> {
     ghost use Rattle.std.specs.Prelude.{List};
     ghost use Rattle.named_lists.specs.declared.named.NamedList.{NamedList};
-    ghost use Rattle.numbered_names.specs.NamePlaces.{ArePlacesOf};
     ghost use Rattle.named_lists.specs.NamedLists.{named_list_name};
+    ghost use Rattle.named_lists.specs.Tables.{IsTableOf};
 
     ghost Value = { List (NamedList E) };
 
     ghost view = { λ a. a.lists.items };
 
-    ghost invariant = { λ a. ArePlacesOf named_list_name a.places a.lists.items };
+    ghost invariant = { λ a. IsTableOf named_list_name a.lists.items a.places.table };
 }
 
 impl<E: Drop> NamedLists<E> {
@@ -52,7 +53,7 @@ impl<E: Drop> NamedLists<E> {
     {
         NamedLists {
             lists: Vec::new(alloc),
-            places: NamePlaces::new(alloc, hashing),
+            places: Places::new(hashing),
         }
     }
 
@@ -60,7 +61,7 @@ impl<E: Drop> NamedLists<E> {
     pub(crate) fn place_of(&self, name: &str) -> Option<usize>
         ensures { result ≡ position (λ l. bytes_eq l.name name.now) self.now }
     {
-        self.places.place_of(name)
+        self.places.place_of(self.lists.as_slice(), name)
     }
 
     /// The entries of the list at a place.
