@@ -1,7 +1,9 @@
 -- One more item of a list that a loop builds, and one more piece of a text.
-use Rattle.std.proofs.Common.{◌≡◌, ℕ, suc, ◌+◌, ◌-◌, ◌<◌, ◌≤◌, List, [], ◌∷◌, ◌++◌, map, flat_map, sym, ◌∙◌, ap, arith, append_assoc}
+use Rattle.std.proofs.Common.{◌≡◌, ℕ, suc, ◌+◌, ◌-◌, ◌<◌, ◌≤◌, List, [], ◌∷◌, ◌++◌, length, get_or, drop, map, flat_map, sym, ◌∙◌, ap, arith, append_assoc}
 use Rattle.std.specs.Prelude.{Result, OnOk}
-use Rattle.std.specs.List.{range_with_len}
+use Rattle.std.specs.List.{range_with_len, enumerate_from}
+use Rattle.std.proofs.Math.Seq.{drop-cons}
+use Rattle.std.proofs.lemmas.List.{append-nil, drop_all}
 use Rattle.std.proofs.lemmas.List.FromFn.{map-range_with_len_more}
 use Rattle.std.proofs.lemmas.Result.{on_ok_weaker}
 
@@ -35,8 +37,24 @@ one_less f old new whole i n less step before =
     ∙ ap (λ r. old ++ flat_map f r) (sym (range_step i n less))
     ∙ before
 
+-- the lists of the items of a list with their places, of which those from i on are left
+pub one_item : {X A : Type 0} (f : ℕ × X → List A) (i : ℕ) (xs : List X) (x d : X) (old new whole : List A) → i < length xs → x ≡ get_or xs i d →
+    new ≡ old ++ f (i, x) → old ++ flat_map f (enumerate_from i (drop i xs)) ≡ whole
+    → new ++ flat_map f (enumerate_from (i + 1) (drop (i + 1) xs)) ≡ whole
+one_item {X} {A} f i xs x d old new whole inside is step before =
+    let rest : List A = flat_map f (enumerate_from (i + 1) (drop (i + 1) xs)) in
+    let next : drop i xs ≡ x ∷ drop (i + 1) xs = drop-cons xs i d inside ∙ ap (λ (y : X). y ∷ drop (suc i) xs) (sym is)
+    ∙ ap (λ (k : ℕ). x ∷ drop k xs) (let e : suc i ≡ i + 1 = omega arith in e) in
+    ap (λ (l : List A). l ++ rest) step ∙ append_assoc old (f (i, x)) rest
+    ∙ ap (λ (l : List X). old ++ flat_map f (enumerate_from i l)) (sym next) ∙ before
+
+pub all_items : {X A : Type 0} (f : ℕ × X → List A) (i : ℕ) (xs : List X) (old whole : List A) → length xs ≤ i →
+    old ++ flat_map f (enumerate_from i (drop i xs)) ≡ whole → old ≡ whole
+all_items {X} {A} f i xs old whole outside before =
+    sym (append-nil old) ∙ ap (λ (l : List X). old ++ flat_map f (enumerate_from i l)) (sym (drop_all i xs outside)) ∙ before
+
 -- one piece more
-pub grown : (old a t b new : List ℕ) → t ≡ old ++ a → new ≡ t ++ b → new ≡ old ++ (a ++ b)
+grown : (old a t b new : List ℕ) → t ≡ old ++ a → new ≡ t ++ b → new ≡ old ++ (a ++ b)
 grown old a t b new first second = second ∙ ap (λ (xs : List ℕ). xs ++ b) first ∙ append_assoc old a b
 
 -- the last piece

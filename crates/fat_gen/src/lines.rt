@@ -1,11 +1,11 @@
 //! The lines of a switch.
 
-ghost use Rattle.std.specs.Prelude.{◌≡◌, ◌<◌, ◌≤◌, ◌+◌, ◌++◌, OnOk, codes, flat_map, string_bytes};
-ghost use Rattle.fat_gen.specs.SwitchLines.{name_text, as_number, host_network, name_line, masked_address_line, interface_into, host_interface, ethernet_line, port_interface, port_interfaces, bgp_line, announced_line, remote_words, remote_as_line, sends_line, switch_neighbors, switch_interfaces, process_lines, lines_with};
+ghost use Rattle.std.specs.Prelude.{◌≡◌, ◌<◌, ◌≤◌, ◌+◌, ◌++◌, OnOk, flat_map, length, string_bytes};
+ghost use Rattle.fat_gen.specs.SwitchLines.{name_text, as_number, host_network, name_line, masked_address_line, interface_into, host_interface, ethernet_line, port_interface, port_interfaces, bgp_line, announced_line, remote_as_line, sends_line, switch_neighbors, switch_interfaces, process_lines, lines_with};
 
 use crate::cable::Port;
 use crate::switch::Switch;
-use printed_words::put_address;
+use printed_words::{Piece, add_address, add_number, put_address};
 use std::alloc::AllocError;
 use std::fmt::Write;
 
@@ -41,11 +41,16 @@ fn put_name_line(text: &mut String, switch: Switch) -> Result<(), AllocError>
 }
 
 fn put_address_line(text: &mut String, address: u32, mask: &str) -> Result<(), AllocError>
+    requires { length mask.now ≤ 15 }
     ensures { OnOk result (string_bytes text.new ≡ string_bytes text.old ++ masked_address_line address mask.now) }
 {
-    text.push_str(" ip address ")?;
-    put_address(text, address)?;
-    write!(text, " {mask}\n")
+    let mut line = Piece::new();
+    line.push_str(" ip address ");
+    add_address(&mut line, address);
+    line.push_str(" ");
+    line.push_str(mask);
+    line.push_str("\n");
+    text.push_str(line.as_str())
 }
 
 fn put_interface_into(text: &mut String, network: u32) -> Result<(), AllocError>
@@ -106,32 +111,26 @@ fn put_network_line(text: &mut String, switch: Switch) -> Result<(), AllocError>
     text.push_str(" mask 255.255.255.0\n")
 }
 
-fn put_remote_words(text: &mut String, number: u32) -> Result<(), AllocError>
-    ensures { OnOk result (string_bytes text.new ≡ string_bytes text.old ++ remote_words number) }
-{
-    write!(text, " remote-as {number}\n")
-}
-
 fn put_remote_line(text: &mut String, address: u32, number: u32) -> Result<(), AllocError>
     ensures { OnOk result (string_bytes text.new ≡ string_bytes text.old ++ remote_as_line address number) }
 {
-    text.push_str(" neighbor ")?;
-    put_address(text, address)?;
-    put_remote_words(text, number)
-}
-
-fn put_sends_words(text: &mut String) -> Result<(), AllocError>
-    ensures { OnOk result (string_bytes text.new ≡ string_bytes text.old ++ codes " send-community\n") }
-{
-    text.push_str(" send-community\n")
+    let mut line = Piece::new();
+    line.push_str(" neighbor ");
+    add_address(&mut line, address);
+    line.push_str(" remote-as ");
+    add_number(&mut line, number);
+    line.push_str("\n");
+    text.push_str(line.as_str())
 }
 
 fn put_sends_line(text: &mut String, address: u32) -> Result<(), AllocError>
     ensures { OnOk result (string_bytes text.new ≡ string_bytes text.old ++ sends_line address) }
 {
-    text.push_str(" neighbor ")?;
-    put_address(text, address)?;
-    put_sends_words(text)
+    let mut line = Piece::new();
+    line.push_str(" neighbor ");
+    add_address(&mut line, address);
+    line.push_str(" send-community\n");
+    text.push_str(line.as_str())
 }
 
 fn put_neighbor(text: &mut String, port: Port) -> Result<(), AllocError>

@@ -1,16 +1,18 @@
 //! The configurations of a fat tree (Al-Fares, Loukissas and Vahdat, SIGCOMM 2008).
 
-ghost use Rattle.std.specs.Prelude.{◌≡◌, ◌≤◌, ◌++◌, IfOk, OnOk, flat_map, length, string_bytes};
+ghost use Rattle.std.specs.Prelude.{◌≡◌, ◌≤◌, ◌++◌, IfOk, OnOk, List, flat_map, length, string_bytes};
 ghost use Rattle.std.specs.List.{enumerate_from};
+ghost use Rattle.fat_gen.specs.declared.cable.Cable.{Cable};
 ghost use Rattle.fat_gen.specs.Switches.{switches};
 ghost use Rattle.fat_gen.specs.Cables.{cables};
+ghost use Rattle.fat_gen.specs.PortTables.{ArePortsByPlace};
 ghost use Rattle.fat_gen.specs.SwitchLines.{switch_lines};
 ghost use Rattle.fat_gen.specs.FatTrees.{is_size, text_by_half, fat_tree_text, IsFatTree};
 
-use crate::cable::Cable;
+use crate::cable::Port;
 use crate::cables::cables;
 use crate::lines::put_switch;
-use crate::ports::ports_at;
+use crate::ports::ports_by_place;
 use crate::refusal::FatRefusal;
 use crate::switch::Switch;
 use crate::switches::switches;
@@ -22,32 +24,18 @@ fn is_size(size: u32) -> bool
     size % 2 == 0 && 4 <= size && size <= 20
 }
 
-fn put_with_ports(
-    alloc: Global,
-    text: &mut String,
-    place: u16,
-    switch: Switch,
-    cables: &[Cable],
-) -> Result<(), AllocError>
-    requires { length cables.now ≤ 4000 }
-    ensures { OnOk result (string_bytes text.new ≡ string_bytes text.old ++ switch_lines cables.now (place, switch)) }
-{
-    let ports = ports_at(alloc, place, cables)?;
-    put_switch(text, place, switch, &ports)
-}
-
+// Appends the lines of each switch, whose ports stand at its place in the table.
 fn put_switches(
-    alloc: Global,
     text: &mut String,
     switches: &[Switch],
-    cables: &[Cable],
+    table: &[Vec<Port>],
 ) -> Result<(), AllocError>
     requires switches { length switches.now ≤ 500 }
-    requires cables { length cables.now ≤ 4000 }
-    ensures { OnOk result (string_bytes text.new ≡ string_bytes text.old ++ flat_map (switch_lines cables.now) (enumerate_from 0 switches.now)) }
+    requires total { length table.now ≡ length switches.now }
+    ensures { OnOk result ((cables : List Cable) → ArePortsByPlace cables table.now → string_bytes text.new ≡ string_bytes text.old ++ flat_map (switch_lines cables) (enumerate_from 0 switches.now)) }
 {
     for i in 0..switches.len() {
-        put_with_ports(alloc, text, i as u16, switches[i], cables)?;
+        put_switch(text, i as u16, switches[i], &table[i])?;
     }
     Ok(())
 }
@@ -58,8 +46,9 @@ fn text_by_half(alloc: Global, half: u8) -> Result<Vec<u8>, AllocError>
 {
     let switches = switches(alloc, half)?;
     let cables = cables(alloc, half)?;
+    let table = ports_by_place(alloc, switches.len(), &cables)?;
     let mut text = String::new(alloc);
-    put_switches(alloc, &mut text, &switches, &cables)?;
+    put_switches(&mut text, &switches, &table)?;
     Ok(text.into_bytes())
 }
 
