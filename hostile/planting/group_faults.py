@@ -223,6 +223,13 @@ GROUPS: list[Fault] = [
         "`lift` gives members the label of their group",
     ),
     switched_fault(
+        "last-member",
+        "solution_lift/src/tables.rt",
+        "    p.members(group)[0]\n",
+        "    let first = p.members(group)[0];\n    if PLANTED {\n        return p.members(group).last().copied().unwrap_or(first);\n    }\n    first\n",
+        "`fold` takes the label of a group's last member",
+    ),
+    switched_fault(
         "piece-short",
         "solution_text/src/forms.rt",
         "    Some(Piece { number, times })\n",

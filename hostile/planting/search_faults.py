@@ -20,6 +20,13 @@ SEARCH: list[Fault] = [
         "an offer that ties with the best one so far, and comes behind it, is no tie",
     ),
     switched_fault(
+        "no-first-tie",
+        "solution_search/src/board.rt",
+        "    if !is_told(difference_of(board.tie), by) {\n",
+        "    if !is_told(difference_of(board.tie), by) && (board.tie.is_some() || !PLANTED) {\n",
+        "a search notes no tie",
+    ),
+    switched_fault(
         "never-waits",
         "solution_search/src/searching.rt",
         "if !lookups.srp.lone()[router as usize] {",
