@@ -75,7 +75,7 @@ fn hashing_of(interfaces: &[Interface]) -> NumberHashing {
     let mut numbers = NumberDigest::for_count(interfaces.len());
     for interface in interfaces {
         if let Some(address) = interface.up_address() {
-            numbers.add(&(address.addr(), address.len()));
+            numbers.add_pair(address.addr(), u32::from(address.len()));
         }
     }
     numbers.hashing()

@@ -47,7 +47,19 @@ impl NumberDigest {
         }
     }
 
-    /// Adds a number, or a key that is made of numbers.
+    /// Adds a number.
+    pub fn add_number(&mut self, number: u64) {
+        if let Some(digest) = &mut self.digest {
+            digest.write_u64(number);
+        }
+    }
+
+    /// Adds two numbers. They are one word to SipHash, which takes a word in the time of a byte.
+    pub fn add_pair(&mut self, first: u32, second: u32) {
+        self.add_number(u64::from(first) << 32 | u64::from(second));
+    }
+
+    /// Adds a key that is made of numbers.
     pub fn add<K: Hash>(&mut self, key: &K) {
         if let Some(digest) = &mut self.digest {
             key.hash(digest);

@@ -33,7 +33,7 @@ fn with_marked(numbers: LoneNumbers, mark: bool, number: u32) -> Result<LoneNumb
 fn hashing_of(numbers: &[u32]) -> NumberHashing {
     let mut digest = NumberDigest::for_count(numbers.len());
     for number in numbers {
-        digest.add(number);
+        digest.add_number(u64::from(*number));
     }
     digest.hashing()
 }

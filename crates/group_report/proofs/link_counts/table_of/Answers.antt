@@ -17,7 +17,8 @@ loop-edge-preserved c =
     let exporter = c.requires.exporters i none c.loop-edge-test.true in
     let few = c.requires.acts i none c.loop-edge-test.true in
     subst (λ (k : ℕ). IsLinkTable (take (i + 1) c.args.edges.now) c.args.groups.now size (set c.loop-edge.table.items k true)) (sym c.cell-place.ensures.is)
-    (next_table c.args.edges.now c.args.groups.now size c.loop-edge.table.items i e none c.group_of-importer.result c.group_of-exporter.result c.loop-edge-test.true
+    (next_table c.args.edges.now c.args.groups.now size c.loop-edge.table.items i e none c.group_of-importer.result c.group_of-exporter.result
+    c.loop-edge-test.true
     refl few
     c.group_of-importer.ensures c.group_of-exporter.ensures
     (group_below c.args.groups.now size.groups e.importer c.group_of-importer.result c.requires.numbered importer c.group_of-importer.ensures)
