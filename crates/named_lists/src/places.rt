@@ -1,6 +1,6 @@
 //! The places of items by their names.
 
-ghost use Rattle.std.specs.Prelude.{◌≡◌, ◌≤◌, ◌∷◌, ◌++◌, [], None, IfOk, OnOk, bytes_eq, length, take};
+ghost use Rattle.std.specs.Prelude.{◌≡◌, ◌≤◌, ◌∷◌, ◌++◌, [], None, true, IfOk, OnOk, bytes_eq, length, take};
 ghost use Rattle.std.specs.List.{position};
 ghost use Rattle.numbered_names.specs.NamePlaces.{ArePlacesOf};
 ghost use Rattle.named_lists.specs.Tables.{IsTableOf};
@@ -19,11 +19,27 @@ pub(crate) struct Places {
     pub(crate) table: Option<NamePlaces>,
 }
 
+// Whether words are as long as each other and end alike, as those that are the same do.
+fn may_be_same(word: &[u8], other: &[u8]) -> bool
+    ensures { word.now ≡ other.now → result ≡ true }
+{
+    let count = word.len();
+    count == other.len() && (count == 0 || word[count - 1] == other[count - 1])
+}
+
+// Whether names are the same. The names of a router mostly count up, so their ends tell most of them
+// apart, which takes no call.
+fn are_same(name: &str, other: &str) -> bool
+    ensures { result ≡ bytes_eq name.now other.now }
+{
+    may_be_same(name.as_bytes(), other.as_bytes()) && name == other
+}
+
 // The place of the first item that has the name.
 fn first_named<T: HasName>(items: &[T], name: &str) -> Option<usize>
     ensures { result ≡ position (λ x. bytes_eq (T.name x) name.now) items.now }
 {
-    items.iter().position(|item| item.name() == name)
+    items.iter().position(|item| are_same(item.name(), name))
 }
 
 // The items before a place.

@@ -14,7 +14,7 @@ pub struct NameSet<'a> {
 }
 
 impl<'a> NameSet<'a> {
-    ghost use Rattle.numbered_names.specs.NameSets.{has_name, Adds};
+    ghost use Rattle.numbered_names.specs.NameSets.{has_name, AddsName};
 
     /// The set without names.
     pub fn new(alloc: Global, hashing: NameHashing) -> Self
@@ -38,7 +38,7 @@ impl<'a> NameSet<'a> {
     /// Out of memory: then it has the names that it had.
     pub fn insert(&mut self, name: &'a str) -> Result<bool, NoMemory>
         ensures new { IfOk result (λ is_new. is_new ≡ not (has_name self.old name.now)) }
-        ensures adds { OnOk result (Adds self.old self.new name.now) }
+        ensures adds { OnOk result (AddsName self.old self.new name.now) }
         ensures err { OnErr result ((other : List ℕ) → has_name self.new other ≡ has_name self.old other) }
     {
         let is_new = self.names.insert(name)?;
