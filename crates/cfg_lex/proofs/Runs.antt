@@ -48,7 +48,8 @@ module _ (q : ℕ → Bool) (d : List ℕ) (i n r : ℕ) (z : List ℕ) (room : 
   counted : r ≡ prefix_len (λ x. not (stops x)) (chunk i n d)
   counted =
       let v = chunk i n d in
-      let mask = ap (λ l. mask_l l % 2 ^ 64) (ap (map (top 7)) lanes ∙ map-map (top 7) f v) ∙ mask_l-mod (map stops v) 64 (omega (arith, length-map v stops, long)) in
+      let mask = ap (λ l. mask_l l % 2 ^ 64) (ap (map (top 7)) lanes ∙ map-map (top 7) f v)
+      ∙ mask_l-mod (map stops v) 64 (omega (arith, length-map v stops, long)) in
       found ∙ ap (λ m. first_set m n) mask ∙ run_is stops v n long few
 
   goes_on : (k : ℕ) → i ≤ k → k < i + r → stops (get_or d k 0) ≡ false

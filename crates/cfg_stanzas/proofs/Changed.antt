@@ -68,4 +68,5 @@ at_has n addr said (p ∷ peers) = by (at_has n addr said peers) (p.addr == addr
     by rest false = then_has (at_neighbor n addr (set_neighbor n said) peers) (λ qs. p ∷ qs) rest
 
 pub peer_has : (n addr : ℕ) (said : RouterItem) (b : BgpProcess) → NeedsNoMemory (with_peer n addr said b)
-peer_has n addr said b = then_has (at_neighbor n addr (set_neighbor n said) b.neighbors) (λ peers. record b { neighbors = peers }) (at_has n addr said b.neighbors)
+peer_has n addr said b = then_has (at_neighbor n addr (set_neighbor n said) b.neighbors) (λ peers. record b { neighbors = peers })
+    (at_has n addr said b.neighbors)

@@ -1,9 +1,6 @@
 -- What the most common heads say of the lines that they begin.
-use Rattle.std.proofs.Common.{◌≡◌, ℕ, Bool, true, false, List, [], ◌∷◌, length, take, drop, codes, nat_eq, Some, refl, sym, ◌∙◌, ◌≤◌, zero, suc, arith}
-use Rattle.std.specs.List.{starts_with}
-use Rattle.std.proofs.lemmas.List.{take_all}
-use Rattle.std.proofs.lemmas.Bool.Decides.{Decides-eqb}
-use Rattle.std.proofs.lemmas.Slice.Eq.{slice_eq-Decides}
+use Rattle.std.proofs.Common.{◌≡◌, ℕ, ◌+◌, ◌<◌, ◌≤◌, Bool, true, false, List, [], ◌∷◌, ◌++◌, length, take, drop, slice_index, codes, Some, refl, sym, ap₂, ◌∙◌, zero, suc, arith}
+use Rattle.std.proofs.lemmas.List.{take_more, take_all}
 use Rattle.cfg_ast.specs.declared.line.Span.{Span}
 use Rattle.cfg_ast.specs.declared.heads.HeadClass.{HeadClass}
 use Rattle.cfg_ast.specs.declared.heads.HeadClass.TheVariants.{Router, Policy}
@@ -14,12 +11,17 @@ use Rattle.cfg_ast.specs.text.Lines.{words_of, text_of, texts}
 use Rattle.cfg_ast.specs.text.Words.{number_between, number_word}
 use Rattle.cfg_words.specs.Rows.{first_word}
 
--- a word that begins with others and is no longer
-pub same_word : (word letters : List ℕ) (r : Bool) → length word ≡ length letters → r ≡ starts_with nat_eq word letters → r ≡ true
+-- words that are alike before a place and at it are alike before the next
+pub alike_more : (word letters : List ℕ) (place : ℕ) → place < length word → place < length letters
+    → slice_index word place ≡ slice_index letters place → take place word ≡ take place letters → take (place + 1) word ≡ take (place + 1) letters
+alike_more word letters place in_word in_letters here before =
+    take_more word place 0 in_word ∙ ap₂ (λ (xs : List ℕ) (x : ℕ). xs ++ x ∷ []) before here ∙ sym (take_more letters place 0 in_letters)
+
+pub alike_all : (word letters : List ℕ) (place : ℕ) → length word ≡ length letters → length letters ≤ place → take place word ≡ take place letters
     → word ≡ letters
-same_word word letters r long starts holds =
-    let whole : take (length letters) word ≡ word = take_all (length letters) word (omega arith) in
-    sym ((slice_eq-Decides Decides-eqb letters (take (length letters) word) r starts).0 holds ∙ whole)
+alike_all word letters place long whole alike =
+    let long_word : length word ≤ place = omega (arith, long, whole) in
+    sym (take_all place word long_word) ∙ alike ∙ take_all place letters whole
 
 pub drop_all : (n : ℕ) (spans : List Span) → length spans ≤ n → drop n spans ≡ []
 drop_all zero [] short = refl
@@ -105,8 +107,8 @@ pub community_line : (words : List (List ℕ)) → first_word words ≡ codes "i
     → first_word (drop 2 words) ≡ codes "standard"
     → class_in top_heads words ≡ Some (Policy policy_form.CommunityLine)
 unfolding top_heads words_of number_between number_word
-community_line words is_first is_second is_third = by_three top_heads (codes "ip") (codes "community-list") (codes "standard") (Policy policy_form.CommunityLine)
-    refl (λ rest. refl) words is_first is_second is_third
+community_line words is_first is_second is_third = by_three top_heads (codes "ip") (codes "community-list") (codes "standard")
+    (Policy policy_form.CommunityLine) refl (λ rest. refl) words is_first is_second is_third
 
 prefix_words : (name : List ℕ) (rest : List (List ℕ)) →
     class_in top_heads (codes "ip" ∷ codes "prefix-list" ∷ name ∷ codes "seq" ∷ rest) ≡ Some (Policy policy_form.PrefixEntry)
@@ -166,7 +168,8 @@ sends_words peer = refl
 
 -- the head with `extended` has a fourth word
 pub sends_line : (bytes : List ℕ) (spans : List Span) → first_word (texts bytes spans) ≡ codes "neighbor" →
-    first_word (drop 2 (texts bytes spans)) ≡ codes "send-community" → drop 3 spans ≡ [] → class_in bgp_heads (texts bytes spans) ≡ Some (Router router_form.PeerSends)
+    first_word (drop 2 (texts bytes spans)) ≡ codes "send-community" → drop 3 spans ≡ [] →
+    class_in bgp_heads (texts bytes spans) ≡ Some (Router router_form.PeerSends)
 sends_line bytes [] is_first is_third no_fourth = absurd cc
 sends_line bytes (a ∷ []) is_first is_third no_fourth = absurd cc
 sends_line bytes (a ∷ b ∷ []) is_first is_third no_fourth = absurd cc

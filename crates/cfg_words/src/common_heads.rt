@@ -10,15 +10,22 @@ use crate::words::text;
 use cfg_ast::HeadClass::{Policy, Router};
 use cfg_ast::{HeadClass, PolicyForm, RouterForm, Span};
 
-// The lengths first: then the compiler compares the bytes without a call.
-#[tactic(auto, using(crate::proofs::CommonHeads::same_word))]
+// Byte by byte, since the words are short: then the compiler compares them without a call.
+#[tactic(auto, using(crate::proofs::CommonHeads::alike_more, crate::proofs::CommonHeads::alike_all))]
 fn is(word: &[u8], letters: &[u8]) -> bool
     ensures { IsTrue result → word.now ≡ letters.now }
 {
     if word.len() != letters.len() {
         return false;
     }
-    word.starts_with(letters)
+    let mut place = 0;
+    while place < letters.len() {
+        if word[place] != letters[place] {
+            return false;
+        }
+        place += 1;
+    }
+    true
 }
 
 fn first_is(bytes: &[u8], words: &[Span], letters: &[u8]) -> bool

@@ -76,5 +76,6 @@ one_cable i cables cable d old new inside is grown before place none within =
 
 pub all_cables : (i : ℕ) (cables : List Cable) (table : Table) → length cables ≤ i → HavePortsBefore i cables table → ArePortsByPlace cables table
 all_cables i cables table over before = record {
-  each = λ place none inside. all_items (ports_on place) i cables (slice_index_or table place none).items (ports_at place cables) over (before place none inside);
+  each = λ place none inside. all_items (ports_on place) i cables (slice_index_or table place none).items (ports_at place cables) over
+      (before place none inside);
 }
