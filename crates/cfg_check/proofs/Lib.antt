@@ -4,6 +4,7 @@ pub mod AreaLookups
 pub mod BlockLemmas
 pub mod CommunityCounts
 pub mod Counted
+pub mod Distinct
 pub mod Faultless
 pub mod FewCommunities
 pub mod FirstFound
@@ -13,6 +14,7 @@ pub mod NameTurns
 pub mod NamedLines
 pub mod Numbers
 pub mod Repeats
+pub mod RisingSubnets
 pub mod Seen
 pub mod SumLemmas
 pub mod Turns

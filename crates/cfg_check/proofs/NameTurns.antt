@@ -3,13 +3,13 @@ use Rattle.std.proofs.Common.{◌≡◌, ◌<◌, ℕ, ◌+◌, Bool, true, fals
 use Rattle.std.proofs.Math.Path.{fun_ext}
 use Rattle.std.specs.Prelude.{bytes_eq}
 use Rattle.std.specs.List.{list_any}
-use Rattle.numbered_names.specs.NameSets.{has_name, Adds}
+use Rattle.numbered_names.specs.NameSets.{has_name, AddsName}
 use Rattle.numbered_names.specs.declared.sets.NameSet.{NameSet}
 use Rattle.cfg_check.specs.NameSets.{lacks_name, HasNames, AddsNames}
 use Rattle.cfg_check.proofs.Seen.{any_more, or_cond}
 
 -- a name was put in
-pub name_added : (old new : NameSet) (key name : List ℕ) → key ≡ name → Adds old new key → AddsNames old new (λ q. bytes_eq q name)
+pub name_added : (old new : NameSet) (key name : List ℕ) → key ≡ name → AddsName old new key → AddsNames old new (λ q. bytes_eq q name)
 name_added old new key name is step = record { each = λ q. step.each q ∙ ap (λ (k : List ℕ). bytes_eq q k || has_name old q) is }
 
 more_names : {X : Type 0} (test : X → List ℕ → Bool) (xs : List X) (i : ℕ) (x : X) (b : Bool) (q : List ℕ) → i < length xs → x ≡ get_or xs i x

@@ -7,7 +7,7 @@ use Rattle.std.proofs.lemmas.List.{take_more}
 use Rattle.std.proofs.lemmas.List.Folds.{list_any-append}
 use Rattle.std.proofs.lemmas.Bool.Decides.{nat_tests}
 use Rattle.numbered_names.specs.declared.sets.NameSet.{NameSet}
-use Rattle.numbered_names.specs.NameSets.{has_name, Adds}
+use Rattle.numbered_names.specs.NameSets.{has_name, AddsName}
 
 pub same_either_way : (m n : ℕ) → nat_eq m n ≡ nat_eq n m
 same_either_way m n = grind (arith, nat_tests)
@@ -38,7 +38,7 @@ or_cond false b = refl
 
 -- a set of names, after a name was put in
 pub text_turn : {X : Type 0} (name : X → List ℕ) (xs : List X) (i : ℕ) (x : X) (old new : NameSet) (key : List ℕ) → i < length xs → x ≡ get_or xs i x →
-    key ≡ name x → Adds old new key
+    key ≡ name x → AddsName old new key
     → ((q : List ℕ) → has_name old q ≡ list_any (λ y. bytes_eq q (name y)) (take i xs))
     → (q : List ℕ) → has_name new q ≡ list_any (λ y. bytes_eq q (name y)) (take (i + 1) xs)
 text_turn name xs i x old new key below here is step so_far q =

@@ -1,11 +1,12 @@
 -- Subnets as blocks of addresses: how two of them overlap.
-use Rattle.std.specs.Prelude.{◌≡◌, ℕ, ◌-◌, ◌/◌, ◌^◌, Bool, ◌&&◌, ◌||◌, List, nat_eq, nat_le}
+use Rattle.std.specs.Prelude.{◌≡◌, ℕ, ◌-◌, ◌/◌, ◌^◌, Bool, not, ◌&&◌, ◌||◌, List, nat_eq, nat_le, nat_lt}
 use Rattle.std.specs.List.{list_any}
 use Rattle.std.specs.HashSet.{HashSet, contains}
 use Rattle.base_kit.specs.Sets.{has}
 use Rattle.base_kit.specs.Pairs.{same_pair}
 use Rattle.number_hashing.specs.declared.hashing.NumberHashing.{NumberHashing}
 use Rattle.cfg_ast.specs.meaning.Addresses.{Address}
+use Rattle.cfg_ast.specs.meaning.RouterFaults.{overlap}
 use Rattle.cfg_check.specs.declared.overlaps.Blocks.{Blocks}
 
 -- the number of the block of that length in which the address lies
@@ -23,6 +24,10 @@ is_around len number a = nat_le len a.len && nat_eq number (block_of len a)
 -- the subnet of `a` lies in that of `b`
 abbrev pub is_under : Address → Address → Bool
 is_under a b = nat_le b.len a.len && nat_eq (block_of b.len a) (block_of b.len b)
+
+-- the address `b` lies behind `a`, and their subnets do not overlap
+abbrev pub is_beyond : Address → Address → Bool
+is_beyond a b = nat_lt a.addr b.addr && not (overlap b a)
 
 abbrev pub Pairs : Type 0
 Pairs = HashSet (ℕ × ℕ) NumberHashing

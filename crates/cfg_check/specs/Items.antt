@@ -46,6 +46,9 @@ same_area l m = nat_eq l.area m.area
 abbrev pub same_address : Address → Address → Bool
 same_address a b = nat_eq a.addr b.addr
 
+abbrev pub address_number : Address → ℕ
+address_number a = a.addr
+
 abbrev pub has_no_cost : Interface → Bool
 has_no_cost x = not (is_some (cost_of_interface x))
 

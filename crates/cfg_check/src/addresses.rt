@@ -1,12 +1,14 @@
 //! Addresses that two up interfaces have.
 
-ghost use Rattle.std.specs.Prelude.{◌≡◌, ◌++◌, IfOk, OnOk, map, filter_map, flat_map};
+ghost use Rattle.std.specs.Prelude.{◌≡◌, ◌++◌, true, IfOk, OnOk, [], map, filter_map, flat_map, nat_lt};
+ghost use Rattle.std.specs.List.{IsAllAdjacentAnswer};
 ghost use Rattle.cfg_ast.specs.meaning.Topology.{up_address};
 ghost use Rattle.cfg_ast.specs.meaning.RouterFaults.{address_line, repeats, up_addresses_of};
-ghost use Rattle.cfg_check.specs.Items.{same_address};
+ghost use Rattle.cfg_check.specs.Items.{address_number, same_address};
 ghost use Rattle.cfg_check.specs.LeastLine.{least_line};
 
 use crate::gather::push_some;
+use crate::hashing::hashing_of;
 use crate::least::with_line_if;
 use base_kit::NoMemory;
 use cfg_ast::{Address, Interface, Router};
@@ -53,15 +55,46 @@ fn repeated_address(
     Ok(least)
 }
 
-/// The least `ip address` line of an up interface whose address an earlier up interface has. Addresses
-/// are hashed as given.
-pub(crate) fn shared_address(
-    alloc: Global,
-    hashing: NumberHashing,
-    routers: &[Router],
-) -> Result<Option<u32>, NoMemory>
+fn numbers_of(alloc: Global, addresses: &[Address]) -> Result<Vec<u32>, NoMemory>
+    ensures { IfOk result (λ numbers. numbers.items ≡ map address_number addresses.now) }
+{
+    let mut numbers = Vec::new(alloc);
+    for address in addresses {
+        numbers.push(address.addr())?;
+    }
+    Ok(numbers)
+}
+
+// Whether each number is less than the next.
+fn ascend(numbers: &[u32]) -> bool
+    ensures { IsAllAdjacentAnswer (λ m n r. r ≡ nat_lt m n) numbers.now result }
+{
+    numbers.is_sorted_by(|number, next| *number < *next)
+}
+
+// Whether all addresses differ, by their order.
+fn all_differ(alloc: Global, addresses: &[Address]) -> Result<bool, NoMemory>
+    ensures { IfOk result (λ differ. differ ≡ true → repeats same_address addresses.now ≡ []) }
+{
+    let mut numbers = numbers_of(alloc, addresses)?;
+    numbers.sort()?;
+    Ok(ascend(numbers.as_slice()))
+}
+
+// The same as `repeated_address`. Only where two addresses are the same is a table made.
+fn least_repeated(alloc: Global, addresses: &[Address]) -> Result<Option<u32>, NoMemory>
+    ensures { IfOk result (λ line. line ≡ least_line (map address_line (repeats same_address addresses.now))) }
+{
+    if all_differ(alloc, addresses)? {
+        return Ok(None);
+    }
+    repeated_address(alloc, hashing_of(addresses), addresses)
+}
+
+/// The least `ip address` line of an up interface whose address an earlier up interface has.
+pub(crate) fn shared_address(alloc: Global, routers: &[Router]) -> Result<Option<u32>, NoMemory>
     ensures { IfOk result (λ line. line ≡ least_line (map address_line (repeats same_address (flat_map up_addresses_of routers.now)))) }
 {
     let addresses = up_addresses(alloc, routers)?;
-    repeated_address(alloc, hashing, addresses.as_slice())
+    least_repeated(alloc, addresses.as_slice())
 }

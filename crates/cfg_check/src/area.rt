@@ -56,7 +56,7 @@ fn wide_loopback_in(index: &AreaIndex, interfaces: &[Interface]) -> Option<u32>
 fn no_cost_at(index: &AreaIndex, interface: &Interface) -> Option<u32>
     ensures { result ≡ option_map address_line (area_address_with has_no_cost index.now.router.now interface.now) }
 {
-    if interface.cost().is_some() || !index.has_in_area(interface) {
+    if !index.has_in_area(interface) || interface.cost().is_some() {
         return None;
     }
     let address = interface.up_address()?;

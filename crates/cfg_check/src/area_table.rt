@@ -22,7 +22,7 @@ const ROWS: u32 = 128;
 
 /// The lines by the digits of the addresses that they have.
 ///
-/// For each digit at each place there is a row of words, whose bits tell which lines agree with an
+/// For each digit at each place there is a row of words, whose bits say which lines agree with an
 /// address that has the digit there. A look-up takes some steps for each 64 lines, whatever their
 /// wildcards are. A few lines have no rows.
 #[derive(Drop)]

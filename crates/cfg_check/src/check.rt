@@ -9,9 +9,9 @@ ghost use Rattle.cfg_ast.specs.text.Reading.{IsGiven};
 use crate::addresses::shared_address;
 use crate::area::area_faults;
 use crate::checked::Checked;
-use crate::communities::{all_mentions, communities, too_many_communities};
+use crate::communities::{all_mentions, communities, hashing_of_mentions, too_many_communities};
 use crate::deletions::delete_list_form;
-use crate::hashing::hashing_of_network;
+use crate::hashing::hashing_of_area;
 use crate::least::with_fault;
 use crate::limits::{too_many_neighbors, too_many_routers};
 use crate::names::shared_name;
@@ -22,13 +22,16 @@ use crate::processes::{internal_peer, mixed_protocols, other_area, shared_as};
 use crate::undefined::{undefined_list, undefined_map};
 use base_kit::NoMemory;
 use cfg_ast::{Fault, Kind, Mention, Network, ReadRefusal};
+use number_hashing::NumberHashing;
 use std::alloc::Global;
 
-// The least fault of the meaning of the network, whose lines have these mentions.
+// The least fault of the meaning of the network, whose lines have these mentions. Communities are hashed as
+// given.
 fn least_fault(
     alloc: Global,
     network: &Network,
     mentions: &[Mention],
+    hashing: NumberHashing,
 ) -> Result<Option<Fault>, NoMemory>
     requires { mentions.now ≡ flat_map mentions_of network.now.routers }
     ensures { IfOk result (λ fault. fault ≡ least_fault (meaning_faults network.now)) }
@@ -46,25 +49,20 @@ fn least_fault(
         Kind::DeleteListForm,
         delete_list_form(alloc, routers)?,
     );
-    let hashing = hashing_of_network(routers);
-    let least = with_fault(
-        least,
-        Kind::SharedAddress,
-        shared_address(alloc, hashing, routers)?,
-    );
+    let least = with_fault(least, Kind::SharedAddress, shared_address(alloc, routers)?);
     let overlapping = overlapping_interfaces(alloc, routers)?;
     let least = with_fault(least, Kind::OverlappingInterfaces, overlapping);
     let in_area = area_faults(alloc, routers)?;
     let least = with_fault(least, Kind::LoopbackMask, in_area.wide_loopback);
     let least = with_fault(least, Kind::NoCost, in_area.no_cost);
     let least = with_fault(least, Kind::TooManyRouters, too_many_routers(routers));
-    let communities = too_many_communities(alloc, mentions)?;
+    let communities = too_many_communities(alloc, hashing, mentions)?;
     let least = with_fault(least, Kind::TooManyCommunities, communities);
     let least = with_fault(least, Kind::TooManyNeighbors, too_many_neighbors(routers));
     let least = with_fault(
         least,
         Kind::TooManyLinks,
-        too_many_links(alloc, hashing, routers)?,
+        too_many_links(alloc, hashing_of_area(routers), routers)?,
     );
     let least = with_fault(least, Kind::PrependForm, prepend_form(routers));
     let least = with_fault(least, Kind::PrependIn, prepend_in(alloc, routers)?);
@@ -82,13 +80,14 @@ pub fn check_network(alloc: Global, network: Network) -> Result<Checked, ReadRef
     ensures refused { IfErr result (λ refusal. RefusesAs refusal (judged network)) }
 {
     let mentions = all_mentions(alloc, network.routers.as_slice())?;
-    match least_fault(alloc, &network, mentions.as_slice())? {
+    let hashing = hashing_of_mentions(mentions.as_slice());
+    match least_fault(alloc, &network, mentions.as_slice(), hashing)? {
         Some(fault) => Err(ReadRefusal::At {
             line: fault.line,
             kind: fault.kind,
         }),
         None => {
-            let communities = communities(alloc, mentions.as_slice())?;
+            let communities = communities(alloc, hashing, mentions.as_slice())?;
             Ok(Checked::new(network, communities))
         }
     }

@@ -103,20 +103,24 @@ fn add_if(set: &mut NumSet, is_new: bool, number: u32) -> Result<(), NoMemory>
     Ok(())
 }
 
-// The hash for a table of the communities.
-fn hashing_of(mentions: &[Mention]) -> NumberHashing {
+/// The hash for a table of the communities.
+pub(crate) fn hashing_of_mentions(mentions: &[Mention]) -> NumberHashing {
     let mut numbers = NumberDigest::for_count(mentions.len());
     for mention in mentions {
-        numbers.add(&mention.community);
+        numbers.add_number(u64::from(mention.community));
     }
     numbers.hashing()
 }
 
 /// The communities that are mentioned.
-pub(crate) fn communities(alloc: Global, mentions: &[Mention]) -> Result<NumSet, NoMemory>
+pub(crate) fn communities(
+    alloc: Global,
+    hashing: NumberHashing,
+    mentions: &[Mention],
+) -> Result<NumSet, NoMemory>
     ensures { IfOk result (λ set. set ≡ communities_in mentions.now) }
 {
-    let mut seen: HashSet<u32, NumberHashing> = HashSet::with_hasher(alloc, hashing_of(mentions));
+    let mut seen: HashSet<u32, NumberHashing> = HashSet::with_hasher(alloc, hashing);
     let mut set = NumSet::new(alloc);
     for mention in mentions {
         let is_new = seen.insert(mention.community)?;
@@ -158,10 +162,15 @@ fn keep_up_to(
 }
 
 // Whether more communities than allowed stand on the lines up to this one.
-fn exceeds(alloc: Global, mentions: &[Mention], line: u32) -> Result<bool, NoMemory>
+fn exceeds(
+    alloc: Global,
+    hashing: NumberHashing,
+    mentions: &[Mention],
+    line: u32,
+) -> Result<bool, NoMemory>
     ensures { IfOk result (λ more. more ≡ nat_lt 1024 (count_up_to mentions.now line)) }
 {
-    let mut seen: HashSet<u32, NumberHashing> = HashSet::with_hasher(alloc, hashing_of(mentions));
+    let mut seen: HashSet<u32, NumberHashing> = HashSet::with_hasher(alloc, hashing);
     for mention in mentions {
         keep_up_to(&mut seen, *mention, line)?;
         if seen.len() > MOST_COMMUNITIES {
@@ -172,7 +181,12 @@ fn exceeds(alloc: Global, mentions: &[Mention], line: u32) -> Result<bool, NoMem
 }
 
 // The first line up to which more communities stand than are allowed. It is not after `last`.
-fn first_exceeding(alloc: Global, mentions: &[Mention], last: u32) -> Result<u32, NoMemory>
+fn first_exceeding(
+    alloc: Global,
+    hashing: NumberHashing,
+    mentions: &[Mention],
+    last: u32,
+) -> Result<u32, NoMemory>
     requires { 1024 < count_up_to mentions.now last }
     ensures few { IfOk result (λ line. count_before mentions.now line ≤ 1024) }
     ensures many { IfOk result (λ line. 1024 < count_up_to mentions.now line) }
@@ -181,7 +195,7 @@ fn first_exceeding(alloc: Global, mentions: &[Mention], last: u32) -> Result<u32
     let mut high = last;
     while low < high {
         let middle = low + (high - low) / 2;
-        if exceeds(alloc, mentions, middle)? {
+        if exceeds(alloc, hashing, mentions, middle)? {
             high = middle;
         } else {
             low = middle + 1;
@@ -193,14 +207,15 @@ fn first_exceeding(alloc: Global, mentions: &[Mention], last: u32) -> Result<u32
 /// The line at which the first community past the limit stands.
 pub(crate) fn too_many_communities(
     alloc: Global,
+    hashing: NumberHashing,
     mentions: &[Mention],
 ) -> Result<Option<u32>, NoMemory>
     ensures { IfOk result (λ line. line ≡ least_line (exceeding_mentions 1024 mentions.now)) }
 {
     let last = last_line(mentions);
-    if !exceeds(alloc, mentions, last)? {
+    if !exceeds(alloc, hashing, mentions, last)? {
         return Ok(None);
     }
-    let line = first_exceeding(alloc, mentions, last)?;
+    let line = first_exceeding(alloc, hashing, mentions, last)?;
     Ok(Some(line))
 }

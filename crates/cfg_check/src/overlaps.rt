@@ -1,11 +1,11 @@
 //! Subnets of one router that overlap.
 
-ghost use Rattle.std.specs.Prelude.{◌≡◌, ◌≤◌, IfOk, OnOk, map, flat_map};
-ghost use Rattle.std.specs.List.{list_any};
+ghost use Rattle.std.specs.Prelude.{◌≡◌, ◌≤◌, true, IfOk, OnOk, [], map, flat_map};
+ghost use Rattle.std.specs.List.{list_any, IsAllAdjacentAnswer};
 ghost use Rattle.cfg_ast.specs.meaning.RouterFaults.{address_line, repeats, overlap};
 ghost use Rattle.cfg_check.specs.Items.{overlapping_in};
 ghost use Rattle.cfg_check.specs.LeastLine.{least_line};
-ghost use Rattle.cfg_check.specs.Blocks.{block_of, is_kept_at, lies_in_one, meets, HasLens, AddsBlock, AddsAround, AddsSubnet};
+ghost use Rattle.cfg_check.specs.Blocks.{block_of, is_beyond, is_kept_at, lies_in_one, meets, HasLens, AddsBlock, AddsAround, AddsSubnet};
 
 use crate::addresses::push_up_addresses;
 use crate::hashing::hashing_of;
@@ -118,6 +118,21 @@ fn overlap(address: Address, other: Address) -> bool
     block(address, len) == block(other, len)
 }
 
+// Whether the address lies behind another, and their subnets do not overlap.
+fn is_beyond(other: Address, address: Address) -> bool
+    ensures { result ≡ is_beyond other address }
+{
+    other.addr() < address.addr() && !overlap(address, other)
+}
+
+// Whether each address lies beyond the one before it. Then it lies beyond all before it.
+fn are_rising(addresses: &[Address]) -> bool
+    ensures adjacent { IsAllAdjacentAnswer (λ a b r. r ≡ is_beyond a b) addresses.now result }
+    ensures none { result ≡ true → repeats overlap addresses.now ≡ [] }
+{
+    addresses.is_sorted_by(|other, address| is_beyond(*other, *address))
+}
+
 fn overlaps_one(others: &[Address], address: Address) -> bool
     ensures { result ≡ list_any (overlap address) others.now }
 {
@@ -156,16 +171,26 @@ fn overlapping(alloc: Global, addresses: &[Address], lens: &[u32]) -> Result<Opt
     Ok(least)
 }
 
+// The same, each in the way that costs least.
+fn least_overlapping(alloc: Global, addresses: &[Address]) -> Result<Option<u32>, NoMemory>
+    ensures { IfOk result (λ line. line ≡ least_line (map address_line (repeats overlap addresses.now))) }
+{
+    if are_rising(addresses) {
+        return Ok(None);
+    }
+    if addresses.len() <= FEW {
+        return Ok(overlapping_pairs(addresses));
+    }
+    let lens = lens_of(alloc, addresses)?;
+    overlapping(alloc, addresses, lens.as_slice())
+}
+
 fn overlapping_of(alloc: Global, router: &Router) -> Result<Option<u32>, NoMemory>
     ensures { IfOk result (λ line. line ≡ least_line (map address_line (overlapping_in router.now))) }
 {
     let mut addresses = Vec::new(alloc);
     push_up_addresses(&mut addresses, router.interfaces.as_slice())?;
-    if addresses.len() <= FEW {
-        return Ok(overlapping_pairs(addresses.as_slice()));
-    }
-    let lens = lens_of(alloc, addresses.as_slice())?;
-    overlapping(alloc, addresses.as_slice(), lens.as_slice())
+    least_overlapping(alloc, addresses.as_slice())
 }
 
 /// The least `ip address` line of an up interface whose subnet overlaps that of an earlier up

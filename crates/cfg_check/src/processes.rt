@@ -46,7 +46,7 @@ fn numbers_of(alloc: Global, routers: &[Router]) -> Result<Vec<Numbered>, NoMemo
 fn hashing_of(all: &[Numbered]) -> NumberHashing {
     let mut numbers = NumberDigest::for_count(all.len());
     for process in all {
-        numbers.add(&process.number);
+        numbers.add_number(u64::from(process.number));
     }
     numbers.hashing()
 }

@@ -10,7 +10,7 @@ pub new-requires-clause-faultless : goal.new-requires-clause-faultless
 new-requires-clause-faultless c = faultless_of c.args.network (none_least (meaning_faults c.args.network) (sym c.in_ok-fault.ensures ∙ c.in-None.is))
 
 pub least_fault-requires : goal.least_fault-requires
-least_fault-requires c = c.as_slice-2.ensures.value ∙ c.in_ok-mentions.ensures ∙ ap (λ (rs : List Router). flat_map mentions_of rs) c.as_slice.ensures
+least_fault-requires c = c.as_slice-3.ensures.value ∙ c.in_ok-mentions.ensures ∙ ap (λ (rs : List Router). flat_map mentions_of rs) c.as_slice.ensures
 
 pub new-requires-clause-named : goal.new-requires-clause-named
 unfolding communities_of

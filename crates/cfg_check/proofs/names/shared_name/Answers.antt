@@ -16,6 +16,6 @@ loop-router-preserved c =
     ∙ c.loop-router.invariant.1 name in (
       c.with_line_if-least.ensures ∙ least_repeat_turn same_name router_line c.args.routers.now c.loop-router.router-index c.router-item.result
           c.loop-router.least (not c.in_ok-is_new.is_new) c.loop-router-test.true c.router-item.is c.loop-router.invariant.0 again,
-      text_turn (λ (r : Router). r.name) c.args.routers.now c.loop-router.router-index c.router-item.result c.loop-router.seen c.insert.new.self c.as_str.result.now
-          c.loop-router-test.true c.router-item.is c.as_str.ensures c.in_ok-is_new.ensures.adds c.loop-router.invariant.1,
+      text_turn (λ (r : Router). r.name) c.args.routers.now c.loop-router.router-index c.router-item.result c.loop-router.seen c.insert.new.self
+          c.as_str.result.now c.loop-router-test.true c.router-item.is c.as_str.ensures c.in_ok-is_new.ensures.adds c.loop-router.invariant.1,
     )
