@@ -117,7 +117,8 @@ none_repeated : (n : Network) → IsFaultless n → repeats (by_number addr_of) 
 unfolding shared_address_lines ups_of
 none_repeated n faultless =
     let ups = flat_map ups_on (enumerate_from 0 n.routers) in
-    let none : repeats same_address (flat_map up_addresses_of n.routers) ≡ [] = map_nil address_line (repeats same_address (flat_map up_addresses_of n.routers)) faultless.shared_address in
+    let none : repeats same_address (flat_map up_addresses_of n.routers) ≡ [] =
+    map_nil address_line (repeats same_address (flat_map up_addresses_of n.routers)) faultless.shared_address in
     map_nil addr_of (repeats (by_number addr_of) ups)
     (sym (repeats_by_number addr_of [] ups)
     ∙ ap (repeats_after nat_eq []) (same_addresses 0 n.routers)

@@ -6,6 +6,7 @@ pub mod Ends
 pub mod FewLinks
 pub mod FewPlaces
 pub mod Joined
+pub mod LaterEnds
 pub mod LinkCounts
 pub mod Lookups
 pub mod OneAddress

@@ -1,5 +1,5 @@
 -- The index over the ends of neighbour lines finds the sessions.
-use Rattle.std.proofs.Common.{◌≡◌, ℕ, suc, ◌+◌, Bool, true, false, not, cond, ◌&&◌, List, [], ◌∷◌, ◌++◌, map, flat_map, nat_lt, nat_eq, Option, Some, None, refl, ◌∙◌, ap, subst, arith}
+use Rattle.std.proofs.Common.{◌≡◌, ℕ, suc, ◌+◌, Bool, true, false, not, cond, ◌&&◌, List, [], ◌∷◌, ◌++◌, map, flat_map, length, nat_lt, nat_eq, Option, Some, None, refl, sym, ◌∙◌, ap, subst, arith}
 use Rattle.std.specs.Prelude.{slice_get}
 use Rattle.std.specs.Option.{option_and_then, option_map_or}
 use Rattle.std.specs.List.{enumerate_from}
@@ -138,3 +138,12 @@ pub sessions_by_index : (n : Network) → IsFaultless n → sessions_of n ≡ fl
 unfolding sessions_of peers
 sessions_by_index n faultless = joined_by_index (IsPlace n.routers) peer_at_place is_session (is_reached n.routers) is_later_peer peer_link
     (peers_indexed n.routers (ups_apart n faultless)) (places neighbors_of n) (all_places n)
+
+is_zero : (n : ℕ) → nat_eq n 0 ≡ true → n ≡ 0
+is_zero n e = grind (arith, nat_tests)
+
+-- without peers there are none
+pub no_sessions : (n : Network) → IsFaultless n → (all : List Peer) → all ≡ peers n → nat_eq (length all) 0 ≡ true → [] ≡ sessions_of n
+no_sessions n faultless [] e f =
+    sym (sessions_by_index n faultless ∙ ap (λ (ps : List Peer). flat_map (sessions_in (ups_of n.routers) ps) ps) (sym e))
+no_sessions n faultless (p ∷ all) e f = let none = is_zero (length (p ∷ all)) f in absurd (omega arith)

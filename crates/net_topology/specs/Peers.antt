@@ -42,6 +42,13 @@ end_from ups router far = option_map (λ (near : Up). (far.at.router, near.addr)
 abbrev pub named_end : List Up → Peer → Option (ℕ × ℕ)
 named_end ups s = option_and_then (end_from ups s.router) (last_with nat_eq addr_of ups s.addr)
 
+-- the same, if that router comes after the peer's own
+abbrev pub end_after : List Up → ℕ → Up → Option (ℕ × ℕ)
+end_after ups router far = if nat_lt router far.at.router then end_from ups router far else None
+
+abbrev pub later_end : List Up → Peer → Option (ℕ × ℕ)
+later_end ups s = option_and_then (end_after ups s.router) (last_with nat_eq addr_of ups s.addr)
+
 abbrev pub is_end_of : Option (ℕ × ℕ) → Peer → Bool
 is_end_of None t = false
 is_end_of (Some end) t = same_pair end (own_end t)

@@ -86,7 +86,7 @@ fn spots(alloc: Global, network: &Network) -> Result<Vec<Spot>, NoMemory>
 fn hashing_of(spots: &[Spot]) -> NumberHashing {
     let mut numbers = NumberDigest::for_count(spots.len());
     for spot in spots {
-        numbers.add(&(spot.len, spot.first));
+        numbers.add_pair(spot.len, spot.first);
     }
     numbers.hashing()
 }

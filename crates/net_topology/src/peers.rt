@@ -97,7 +97,7 @@ fn all_peers(alloc: Global, network: &Network) -> Result<Vec<Peer>, NoMemory>
 fn hashing_of(peers: &[Peer]) -> NumberHashing {
     let mut numbers = NumberDigest::for_count(peers.len());
     for peer in peers {
-        numbers.add(&(peer.router, peer.addr));
+        numbers.add_pair(peer.router, peer.addr);
     }
     numbers.hashing()
 }
@@ -106,7 +106,11 @@ fn hashing_of(peers: &[Peer]) -> NumberHashing {
 fn by_end(alloc: Global, peers: &[Peer]) -> Result<Index<Peer>, NoMemory>
     ensures { IfOk result (λ index. IsIndex own_end index peers.now) }
 {
-    let mut index: Index<Peer> = HashMap::with_hasher(alloc, hashing_of(peers));
+    let mut index: Index<Peer> = HashMap::with_capacity_and_hasher(
+        alloc,
+        peers.len(),
+        hashing_of(peers),
+    )?;
     for peer in peers {
         push_at(alloc, &mut index, (peer.router, peer.addr), *peer)?;
     }

@@ -36,7 +36,7 @@ fn push_sessions_of(
 ) -> Result<(), NoMemory>
     ensures { OnOk result (found.new ≡ found.old ++ sessions_in ups.now.all.items peers.now.all.items p.now) }
 {
-    push_sessions(found, p, peers.at(ups.other_end(p)))
+    push_sessions(found, p, peers.at(ups.later_end(p)))
 }
 
 fn sessions_among(alloc: Global, ups: &Ups, peers: &Peers) -> Result<List<Link>, NoMemory>
@@ -57,7 +57,11 @@ pub(crate) fn sessions(alloc: Global, network: &Network) -> Result<List<Link>, N
     requires few { HasFewPlaces network.now.routers }
     ensures { IfOk result (λ links. links ≡ sessions_of network.now) }
 {
-    let ups = Ups::of(alloc, network.routers.as_slice())?;
     let peers = Peers::of(alloc, network)?;
+    // Without peers no address is looked up, so no table of addresses is made.
+    if peers.all.as_slice().is_empty() {
+        return Ok(List::new(alloc));
+    }
+    let ups = Ups::of(alloc, network.routers.as_slice())?;
     sessions_among(alloc, &ups, &peers)
 }

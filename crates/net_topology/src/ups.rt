@@ -2,7 +2,7 @@
 
 ghost use Rattle.std.specs.Prelude.{◌≡◌, ◌<◌, ◌^◌, ◌++◌, length, IfOk, OnOk, nat_eq};
 ghost use Rattle.net_topology.specs.Ups.{up_at, up_on, ups_on, ups_of, addr_of, attachment_of, same_attachment, IsLookup};
-ghost use Rattle.net_topology.specs.Peers.{named_end};
+ghost use Rattle.net_topology.specs.Peers.{end_from, named_end, later_end};
 
 use crate::peers::Peer;
 use crate::places::place;
@@ -86,9 +86,9 @@ fn all_ups(alloc: Global, routers: &[Router]) -> Result<Vec<Up>, NoMemory>
 // The hash for tables of the addresses and of where they are attached.
 fn hashing_of(ups: &[Up]) -> NumberHashing {
     let mut numbers = NumberDigest::for_count(ups.len());
+    // The length and the address give the subnet, and the routers are few.
     for up in ups {
-        numbers.add(&up.addr);
-        numbers.add(&up.at);
+        numbers.add_pair(up.addr, up.at.router << 8 | up.at.len);
     }
     numbers.hashing()
 }
@@ -100,7 +100,11 @@ fn by_addr(
 ) -> Result<HashMap<u32, Up, NumberHashing>, NoMemory>
     ensures { IfOk result (λ lookup. IsLookup nat_eq addr_of lookup ups.now) }
 {
-    let mut lookup: HashMap<u32, Up, NumberHashing> = HashMap::with_hasher(alloc, hashing);
+    let mut lookup: HashMap<u32, Up, NumberHashing> = HashMap::with_capacity_and_hasher(
+        alloc,
+        ups.len(),
+        hashing,
+    )?;
     for up in ups {
         lookup.insert(up.addr, *up)?;
     }
@@ -114,7 +118,11 @@ fn by_attachment(
 ) -> Result<HashMap<Attachment, Up, NumberHashing>, NoMemory>
     ensures { IfOk result (λ lookup. IsLookup same_attachment attachment_of lookup ups.now) }
 {
-    let mut lookup: HashMap<Attachment, Up, NumberHashing> = HashMap::with_hasher(alloc, hashing);
+    let mut lookup: HashMap<Attachment, Up, NumberHashing> = HashMap::with_capacity_and_hasher(
+        alloc,
+        ups.len(),
+        hashing,
+    )?;
     for up in ups {
         lookup.insert(up.at, *up)?;
     }
@@ -137,17 +145,36 @@ impl Ups {
         })
     }
 
-    /// The router and the address of the neighbour line at which a session of the peer ends: that router
-    /// has the address that the peer names, and the peer's own router has this one in the same subnet.
-    pub(crate) fn other_end(&self, p: &Peer) -> Option<(u32, u32)>
-        ensures { result ≡ named_end self.now.all.items p.now }
+    // Where a session of the peer ends, if the address that the peer names is this one.
+    fn end_beside(&self, p: &Peer, far: Up) -> Option<(u32, u32)>
+        ensures { result ≡ end_from self.now.all.items p.now.router far }
     {
-        let far = self.by_addr.get(&p.addr).copied()?;
         let near = self.by_attachment.get(&Attachment {
             router: p.router,
             len: far.at.len,
             first: far.at.first,
         });
         Some((far.at.router, near.copied()?.addr))
+    }
+
+    /// The router and the address of the neighbour line at which a session of the peer ends: that router
+    /// has the address that the peer names, and the peer's own router has this one in the same subnet.
+    pub(crate) fn other_end(&self, p: &Peer) -> Option<(u32, u32)>
+        ensures { result ≡ named_end self.now.all.items p.now }
+    {
+        let far = self.by_addr.get(&p.addr).copied()?;
+        self.end_beside(p, far)
+    }
+
+    /// The same, if that router comes after the peer's own. Of the others nothing more is looked up.
+    pub(crate) fn later_end(&self, p: &Peer) -> Option<(u32, u32)>
+        ensures { result ≡ later_end self.now.all.items p.now }
+    {
+        let far = self.by_addr.get(&p.addr).copied()?;
+        if p.router < far.at.router {
+            self.end_beside(p, far)
+        } else {
+            None
+        }
     }
 }
