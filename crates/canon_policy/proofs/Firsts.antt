@@ -101,7 +101,8 @@ module _ (shown : Shown) (is : IsShown shown) (node : ℕ) (hangs : TestHangsOn 
       with_both : (x : ℕ) (s : List ℕ) → SameOn shown.universe (with_number x (as_set (without_number x s))) (with_number x s)
       with_both x s = record {
         same = λ c known. has-with_number x (as_set (without_number x s)) c
-            ∙ ap (λ b. nat_eq x c || b) (has-as_set (without_number x s) c ∙ has-without_number x s c) ∙ by (nat_eq x c) (has s c) ∙ sym (has-with_number x s c);
+            ∙ ap (λ b. nat_eq x c || b) (has-as_set (without_number x s) c ∙ has-without_number x s c) ∙ by (nat_eq x c) (has s c)
+            ∙ sym (has-with_number x s c);
       }
         where
           by : (n b : Bool) → n || (not n && b) ≡ n || b

@@ -12,7 +12,7 @@ use Rattle.policy_dd.specs.Matches.{AreNodesInside, has_in, first_of, decided}
 use Rattle.policy_dd.specs.MapRun.{AreMapInside, permits_it, prefers, adds_it}
 use Rattle.policy_dd.specs.Import.{second_deciding, both_permit, others_kept, there_after_both}
 
--- the two maps on what is known of each set: the set's communities, and a test that tells whether there
+-- the two maps on what is known of each set: the set's communities, and a test that says whether there
 -- are others
 pub record IsCrossed (shown : Shown) (universe : List ℕ) (others : List ℕ → Bool) (out : List PlainEntry) (sends : Bool) (into : List PlainEntry)
     (r : Crossing) : Type 0 where
@@ -46,7 +46,7 @@ pub record AreOuts (old new : Shown) (permit : ℕ) (carried : Carried) (rest : 
   pub value : (set : List ℕ) (c : ℕ) → has old.universe c ≡ true → case_or new set outs c (carried_by_rest old rest c set) ≡ value_of old set permit
       && has_in old carried set c
 
--- the nodes of both maps put together, with one that tells whether one more community would be kept
+-- the nodes of both maps put together, with one that says whether one more community would be kept
 pub record IsPutTogether (old new : Shown) (seen : Crossing) (beyond : ℕ) (edge : EdgeFn) : Type 0 where
   pub permit_inside : edge.permit < length new.nodes
   pub rest_inside : edge.rest < length new.nodes

@@ -12,12 +12,12 @@ just_wanted shown set none [] wants = value_of shown set none
 just_wanted shown set none (case ∷ cases) wants =
     (if has wants case.0 then value_of shown set case.1 else not (value_of shown set case.1)) && just_wanted shown set none cases wants
 
--- the table's nodes tell where its communities are carried
+-- the table's nodes say where its communities are carried
 abbrev pub TellCarried : Shown → Shown → Carried → List (ℕ × ℕ) → Type 0
 TellCarried old new carried [] = Unit {0}
 TellCarried old new carried (case ∷ cases) = Means new case.1 (λ set. has_in old carried set case.0) × TellCarried old new carried cases
 
--- a table of the communities, whose nodes tell where they are carried
+-- a table of the communities, whose nodes say where they are carried
 pub record AreConditions (old new : Shown) (carried : Carried) (communities : List ℕ) (cases : List (ℕ × ℕ)) : Type 0 where
   pub keys_are : keys_of cases ≡ communities
   pub each : TellCarried old new carried cases

@@ -7,12 +7,12 @@ ghost use Rattle.route_maps.specs.Within.{IsEntryWithin};
 ghost use Rattle.dd_core.specs.Sets.{value_of, Grows, Means};
 ghost use Rattle.policy_dd.specs.declared.matches.Carried.{Carried};
 ghost use Rattle.policy_dd.specs.Deletion.{put_by_change};
-ghost use Rattle.policy_dd.specs.MapRun.{AreMapInside, IsEntryTaken, IsPushed, IsMapFn};
+ghost use Rattle.policy_dd.specs.MapRun.{AreMapInside, AreTablesAscending, IsEither, IsEntryTaken, IsPushed, IsMapFn};
 ghost use Rattle.policy_dd.specs.Matches.{AreNodesInside};
 ghost use Rattle.policy_dd.specs.Tables.{AllInside, IsTableGrown, IsMoreBy};
 
 use crate::deletion::left_by;
-use crate::either::either;
+use crate::either::or_unless;
 use crate::matches::{Carried, entry_node, without};
 use crate::tables::{or_all, or_into};
 use base_kit::{List, NoMemory};
@@ -23,7 +23,6 @@ use std::alloc::Global;
 
 /// What a route map does, by the set that a route began with. All nodes are of sets on which some entry
 /// so far decides.
-#[derive(Drop)]
 pub struct MapFn {
     /// Some entry holds.
     pub before: NodeId,
@@ -39,6 +38,21 @@ pub struct MapFn {
     pub present: List<(u32, NodeId)>,
     /// The communities that it leaves where `rest` is false, or takes out where `rest` is true.
     pub odd: List<(u32, NodeId)>,
+}
+
+// One call where a map's function is dropped, in place of the drops of all its tables.
+impl Drop for MapFn {
+    fn drop(self) {
+        let MapFn {
+            before: _,
+            permit: _,
+            rest: _,
+            lps: _lps,
+            adds: _adds,
+            present: _present,
+            odd: _odd,
+        } = self;
+    }
 }
 
 fn or_if(store: &mut Store, a: NodeId, b: NodeId, wanted: bool) -> Result<NodeId, NoMemory>
@@ -91,53 +105,94 @@ fn or_named(
     }
 }
 
-/// What a permit entry adds where it decides.
-fn taken(
-    alloc: Global,
-    store: &mut Store,
-    m: MapFn,
-    before: NodeId,
-    decides: NodeId,
-    entry: &PlainEntry,
-) -> Result<MapFn, NoMemory>
-    requires inside { AreMapInside store.old m }
-    requires before_inside { before < length store.old.nodes }
-    requires decides_inside { decides < length store.old.nodes }
-    requires known { IsEntryWithin store.old.universe entry.now }
-    ensures grows { Grows store.old store.new }
-    ensures taken { IfOk result (λ r. IsEntryTaken store.old store.new m r before decides entry.now) }
-{
-    let left = left_by(alloc, entry)?;
-    let permit = store.or(m.permit, decides)?;
-    let rest = or_if(store, m.rest, decides, left.all)?;
-    let lps = or_into(store, m.lps, entry.lp.unwrap_or(100), decides)?;
-    let adds = or_count(store, m.adds, entry.adds, decides)?;
-    let present = or_named(store, m.present, &entry.change, decides)?;
-    let odd = or_all(store, m.odd, left.odd.as_slice(), decides)?;
-    Ok(MapFn {
-        before,
-        permit,
-        rest,
-        lps,
-        adds,
-        present,
-        odd,
-    })
+impl MapFn {
+    /// What a permit entry adds where it decides.
+    fn taken(
+        self,
+        alloc: Global,
+        store: &mut Store,
+        before: NodeId,
+        decides: NodeId,
+        entry: &PlainEntry,
+    ) -> Result<MapFn, NoMemory>
+        requires inside { AreMapInside store.old self }
+        requires before_inside { before < length store.old.nodes }
+        requires decides_inside { decides < length store.old.nodes }
+        requires known { IsEntryWithin store.old.universe entry.now }
+        ensures grows { Grows store.old store.new }
+        ensures taken { IfOk result (λ r. IsEntryTaken store.old store.new self r before decides entry.now) }
+    {
+        let left = left_by(alloc, entry)?;
+        let permit = store.or(self.permit, decides)?;
+        let rest = or_if(store, self.rest, decides, left.all)?;
+        let MapFn {
+            before: _,
+            permit: _,
+            rest: _,
+            lps,
+            adds,
+            present,
+            odd,
+        } = self;
+        let lps = or_into(store, lps, entry.lp.unwrap_or(100), decides)?;
+        let adds = or_count(store, adds, entry.adds, decides)?;
+        let present = or_named(store, present, &entry.change, decides)?;
+        let odd = or_all(store, odd, left.odd.as_slice(), decides)?;
+        Ok(MapFn {
+            before,
+            permit,
+            rest,
+            lps,
+            adds,
+            present,
+            odd,
+        })
+    }
+
+    /// What a map does whose front part is this one and whose back part is `last`: this one decides if
+    /// one of its entries holds, and otherwise `last`.
+    pub fn either(self, store: &mut Store, last: &MapFn) -> Result<MapFn, NoMemory>
+        requires first_inside { AreMapInside store.old self }
+        requires last_inside { AreMapInside store.old last.now }
+        requires ascending { AreTablesAscending last.now }
+        ensures grows { Grows store.old store.new }
+        ensures either { IfOk result (IsEither store.old store.new self last.now) }
+    {
+        let before = store.or(self.before, last.before)?;
+        let permit = store.ite(self.before, self.permit, last.permit)?;
+        let rest = store.ite(self.before, self.rest, last.rest)?;
+        let MapFn {
+            before: unless,
+            permit: _,
+            rest: _,
+            lps,
+            adds,
+            present,
+            odd,
+        } = self;
+        let lps = or_unless(store, lps, last.lps.as_slice(), unless)?;
+        let adds = or_unless(store, adds, last.adds.as_slice(), unless)?;
+        let present = or_unless(store, present, last.present.as_slice(), unless)?;
+        let odd = or_unless(store, odd, last.odd.as_slice(), unless)?;
+        Ok(MapFn {
+            before,
+            permit,
+            rest,
+            lps,
+            adds,
+            present,
+            odd,
+        })
+    }
 }
 
 /// One more entry, which does nothing where it decides.
 fn passed_over(m: MapFn, before: NodeId) -> MapFn
     ensures { result ≡ record m { before = before } }
 {
-    MapFn {
-        before,
-        permit: m.permit,
-        rest: m.rest,
-        lps: m.lps,
-        adds: m.adds,
-        present: m.present,
-        odd: m.odd,
-    }
+    let mut m = m;
+    m.before = before;
+    m
 }
 
 /// One entry more. It does nothing where it denies, or where an earlier one always holds.
@@ -163,7 +218,7 @@ fn push_entry(
     if is_same(store, decides, store.constant(false)) {
         return Ok(passed_over(m, before));
     }
-    let pushed = taken(alloc, store, m, before, decides, entry)?;
+    let pushed = m.taken(alloc, store, before, decides, entry)?;
     Ok(pushed)
 }
 
@@ -207,7 +262,7 @@ pub fn run_map(
             let (front, back) = entries.split_at(entries.len() / 2);
             let first = run_map(alloc, store, carried, front)?;
             let last = run_map(alloc, store, carried, back)?;
-            let m = either(store, first, &last)?;
+            let m = first.either(store, &last)?;
             Ok(m)
         }
     }

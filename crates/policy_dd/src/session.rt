@@ -23,11 +23,21 @@ use route_maps::{Plain, PlainEntry};
 use std::alloc::Global;
 
 /// What the maps of both ends do, and what is carried in the end.
-#[derive(Drop)]
 pub struct Crossing {
     pub first: MapFn,
     pub second: MapFn,
     pub end: Carried,
+}
+
+// One call where a crossing is dropped, in place of the drops of all its tables.
+impl Drop for Crossing {
+    fn drop(self) {
+        let Crossing {
+            first: _first,
+            second: _second,
+            end: _end,
+        } = self;
+    }
 }
 
 // Reading a set shows that it ascends.

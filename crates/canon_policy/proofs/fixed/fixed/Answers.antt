@@ -22,3 +22,12 @@ returns-clause-fixed c =
           (subst (λ (l : List PartNodes). ArePartsFixed c.fixed_node-2.new.store c.fixed_parts.new.store c.args.alone.now l c.in_ok-parts.parts)
           c.as_slice.ensures c.in_ok-parts.ensures.fixed);
     }
+
+pub returns-in_err-rest-clause-grows : goal.returns-in_err-rest-clause-grows
+returns-in_err-rest-clause-grows c = grows_trans _ _ _ c.in_ok-permit.ensures.grows c.in_err-rest.ensures.grows
+
+pub returns-in_err-parts-clause-grows : goal.returns-in_err-parts-clause-grows
+returns-in_err-parts-clause-grows c = grows_trans _ _ _ (grows_trans _ _ _ c.in_ok-permit.ensures.grows c.in_ok-rest.ensures.grows) c.in_err-parts.ensures.grows
+
+pub returns-clause-grows : goal.returns-clause-grows
+returns-clause-grows c = grows_trans _ _ _ (grows_trans _ _ _ c.in_ok-permit.ensures.grows c.in_ok-rest.ensures.grows) c.in_ok-parts.ensures.grows

@@ -33,7 +33,8 @@ walk-first-requires t c =
       omega arith,
       (
         fixed_inside c.split_by.new.store c.fixed.new.store c.in_ok-high-in-Some.ensures.grows c.in_ok-alone-in-Some.alone c.args.nodes.now
-            c.in_ok-high-in-Some.high (nodes_inside_kept c.args.store.now c.split_by.new.store c.in_ok-split_by.ensures.grows c.args.nodes.now c.requires.inside)
+            c.in_ok-high-in-Some.high (nodes_inside_kept c.args.store.now c.split_by.new.store c.in_ok-split_by.ensures.grows c.args.nodes.now
+            c.requires.inside)
             c.in_ok-high-in-Some.ensures.fixed,
         omega arith,
       ),
@@ -111,3 +112,32 @@ returns-in_ok-without-in-Some-clause-walked t c = λ asked hang of.
     (settled (c.args.depth - 1) (split c.args.store.now.universe asked) (with_present c.in-Some.community.0 c.args.fixing))
     (settled (c.args.depth - 1) (split c.args.store.now.universe asked) (with_absent c.in-Some.community.0 c.args.fixing)) c.walk-first.result
     c.walk.result one (sym c.is_err.ensures.value ∙ c.if-is_err.false) two)
+
+pub returns-in_err-high-in-Some-clause-grows : goal.returns-in_err-high-in-Some-clause-grows
+returns-in_err-high-in-Some-clause-grows t c = grows_trans _ _ _ c.in_ok-split_by.ensures.grows c.in_err-high-in-Some.ensures.grows
+
+pub returns-in_err-with-in-Some-clause-grows : goal.returns-in_err-with-in-Some-clause-grows
+returns-in_err-with-in-Some-clause-grows t c = grows_trans _ _ _ c.in_ok-split_by.ensures.grows c.in_ok-high-in-Some.ensures.grows
+
+pub returns-then-is_err-clause-grows : goal.returns-then-is_err-clause-grows
+returns-then-is_err-clause-grows t c = grows_trans _ _ _ (grows_trans _ _ _ c.in_ok-split_by.ensures.grows c.in_ok-high-in-Some.ensures.grows)
+    c.walk-first.ensures.grows
+
+pub returns-in_err-other-in-Some-clause-grows : goal.returns-in_err-other-in-Some-clause-grows
+returns-in_err-other-in-Some-clause-grows t c = grows_trans _ _ _
+    (grows_trans _ _ _ c.in_ok-split_by.ensures.grows c.in_ok-high-in-Some.ensures.grows) c.walk-first.ensures.grows
+
+pub returns-in_err-low-in-Some-clause-grows : goal.returns-in_err-low-in-Some-clause-grows
+returns-in_err-low-in-Some-clause-grows t c = grows_trans _ _ _
+    (grows_trans _ _ _ (grows_trans _ _ _ c.in_ok-split_by.ensures.grows c.in_ok-high-in-Some.ensures.grows) c.walk-first.ensures.grows)
+    c.in_err-low-in-Some.ensures.grows
+
+pub returns-in_err-without-in-Some-clause-grows : goal.returns-in_err-without-in-Some-clause-grows
+returns-in_err-without-in-Some-clause-grows t c = grows_trans _ _ _
+    (grows_trans _ _ _ (grows_trans _ _ _ c.in_ok-split_by.ensures.grows c.in_ok-high-in-Some.ensures.grows) c.walk-first.ensures.grows)
+    c.in_ok-low-in-Some.ensures.grows
+
+pub returns-in_ok-without-in-Some-clause-grows : goal.returns-in_ok-without-in-Some-clause-grows
+returns-in_ok-without-in-Some-clause-grows t c = grows_trans _ _ _
+    (grows_trans _ _ _ (grows_trans _ _ _ (grows_trans _ _ _ c.in_ok-split_by.ensures.grows c.in_ok-high-in-Some.ensures.grows) c.walk-first.ensures.grows)
+    c.in_ok-low-in-Some.ensures.grows) c.walk.ensures.grows

@@ -30,3 +30,12 @@ returns-clause-after c =
     after_is c.args.store.now c.carried_outs.new.store c.and.new.self c.and-2.new.self c.args.carried.now c.args.m.now c.in_ok-keys.keys c.in_ok-outs.outs
     c.in_ok-rest.rest c.in_ok-others.others c.in_ok-outs.ensures.grows c.in_ok-rest.ensures.grows c.in_ok-others.ensures.grows c.requires.inside
     c.requires.map_inside c.in_ok-keys.ensures tabled c.in_ok-rest.ensures.and c.in_ok-others.ensures.and
+
+pub returns-in_err-rest-clause-grows : goal.returns-in_err-rest-clause-grows
+returns-in_err-rest-clause-grows c = grows_trans _ _ _ c.in_ok-outs.ensures.grows c.in_err-rest.ensures.grows
+
+pub returns-in_err-others-clause-grows : goal.returns-in_err-others-clause-grows
+returns-in_err-others-clause-grows c = grows_trans _ _ _ (grows_trans _ _ _ c.in_ok-outs.ensures.grows c.in_ok-rest.ensures.grows) c.in_err-others.ensures.grows
+
+pub returns-clause-grows : goal.returns-clause-grows
+returns-clause-grows c = grows_trans _ _ _ (grows_trans _ _ _ c.in_ok-outs.ensures.grows c.in_ok-rest.ensures.grows) c.in_ok-others.ensures.grows

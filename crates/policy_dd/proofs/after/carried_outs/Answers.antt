@@ -48,3 +48,9 @@ returns-clause-outs c =
     let e : take c.loop-key.key-index c.args.keys.now ≡ c.args.keys.now = take_all c.loop-key.key-index c.args.keys.now (omega arith) in
     subst (λ (l : List ℕ). IsTabled c.loop-key.store (λ k set. carries_on c.args.store.now c.args.carried.now c.args.m.now set k) l c.loop-key.outs) e
     c.loop-key.invariant.outs
+
+pub returns-in_err-node-clause-grows : goal.returns-in_err-node-clause-grows
+returns-in_err-node-clause-grows c = grows_trans _ _ _ c.loop-key.invariant.grows c.in_err-node.ensures.grows
+
+pub returns-in_err-push-clause-grows : goal.returns-in_err-push-clause-grows
+returns-in_err-push-clause-grows c = grows_trans _ _ _ c.loop-key.invariant.grows c.in_ok-node.ensures.grows

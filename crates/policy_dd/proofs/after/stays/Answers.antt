@@ -1,5 +1,5 @@
 use Rattle.std.proofs.Common.{◌≡◌, Some, None, sym}
-use Rattle.dd_core.proofs.ShownLemmas.{grows_inside}
+use Rattle.dd_core.proofs.ShownLemmas.{grows_inside, grows_trans}
 use Rattle.policy_dd.specs.Tables.{node_at}
 use Rattle.policy_dd.proofs.TableLemmas.{case_inside}
 use Rattle.policy_dd.proofs.AfterLemmas.{stays_odd, stays_rest}
@@ -24,3 +24,9 @@ pub returns-in-None-clause-stays : goal.returns-in-None-clause-stays
 returns-in-None-clause-stays c =
     let at : node_at c.args.m.now.odd c.args.community ≡ None = rw (← c.as_slice.ensures) (sym c.in-None.ensures) in
     stays_rest _ _ _ c.requires at
+
+pub returns-in_err-node-in-Some-clause-grows : goal.returns-in_err-node-in-Some-clause-grows
+returns-in_err-node-in-Some-clause-grows c = grows_trans _ _ _ c.in_ok-gone-in-Some.ensures.grows c.in_err-node-in-Some.ensures.grows
+
+pub returns-in_ok-node-in-Some-clause-grows : goal.returns-in_ok-node-in-Some-clause-grows
+returns-in_ok-node-in-Some-clause-grows c = grows_trans _ _ _ c.in_ok-gone-in-Some.ensures.grows c.in_ok-node-in-Some.ensures.grows

@@ -63,3 +63,9 @@ returns-clause-more c =
     (subst (λ (l : List (ℕ × ℕ)). IsTableGrown c.args.store.now c.loop-case.store c.args.cases c.loop-case.all (keys_of l)
     (λ k set. has (keys_of l) k && (not (value_of c.args.store.now set c.args.unless) && case_or c.args.store.now set c.args.more.now k false)))
     (take_all c.loop-case.case-index c.args.more.now (omega arith)) c.loop-case.invariant.more)
+
+pub returns-in_err-node-clause-grows : goal.returns-in_err-node-clause-grows
+returns-in_err-node-clause-grows c = grows_trans _ _ _ c.loop-case.invariant.grows c.in_err-node.ensures.grows
+
+pub returns-in_err-all-clause-grows : goal.returns-in_err-all-clause-grows
+returns-in_err-all-clause-grows c = grows_trans _ _ _ (grows_trans _ _ _ c.loop-case.invariant.grows c.in_ok-node.ensures.grows) c.in_err-all.ensures.grows

@@ -3,7 +3,7 @@ use Rattle.std.specs.List.{filter}
 use Rattle.base_kit.specs.Sets.{has}
 use Rattle.cfg_ast.specs.meaning.Lists.{first_line_decides}
 use Rattle.dd_core.specs.Sets.{Means, IsIteOfSets}
-use Rattle.dd_core.proofs.ShownLemmas.{grows_inside}
+use Rattle.dd_core.proofs.ShownLemmas.{grows_inside, grows_trans}
 use Rattle.policy_dd.specs.Exact.{just_wanted}
 use Rattle.policy_dd.specs.Tables.{AllInside}
 use Rattle.policy_dd.proofs.DecideLemmas.{no_items}
@@ -46,3 +46,17 @@ returns-in_ok-node-in-len1-up-clause-answer t c =
     _ (lines_now c.args.lines.now) (lines_now c.as_slice.result.now) (lines_now c.as_slice-in-len1-up.result.now) c.in_ok-high-in-len1-up.high
     c.in_ok-low-in-len1-up.low c.in_ok-node-in-len1-up.node inside c.requires.none c.in_ok-high-in-len1-up.ensures.grows
     c.in_ok-low-in-len1-up.ensures.grows named unnamed c.in_ok-high-in-len1-up.ensures.answer c.in_ok-low-in-len1-up.ensures.answer ite)
+
+pub ite-requires-clause-b_inside : goal.ite-requires-clause-b_inside
+ite-requires-clause-b_inside t c = grows_inside _ _ _ c.in_ok-low-in-len1-up.ensures.grows c.in_ok-high-in-len1-up.ensures.answer.inside
+
+pub returns-in_err-low-in-len1-up-clause-grows : goal.returns-in_err-low-in-len1-up-clause-grows
+returns-in_err-low-in-len1-up-clause-grows t c = grows_trans _ _ _ c.in_ok-high-in-len1-up.ensures.grows c.in_err-low-in-len1-up.ensures.grows
+
+pub returns-in_err-node-in-len1-up-clause-grows : goal.returns-in_err-node-in-len1-up-clause-grows
+returns-in_err-node-in-len1-up-clause-grows t c = grows_trans _ _ _
+    (grows_trans _ _ _ c.in_ok-high-in-len1-up.ensures.grows c.in_ok-low-in-len1-up.ensures.grows) c.in_err-node-in-len1-up.ensures.grows
+
+pub returns-in_ok-node-in-len1-up-clause-grows : goal.returns-in_ok-node-in-len1-up-clause-grows
+returns-in_ok-node-in-len1-up-clause-grows t c = grows_trans _ _ _
+    (grows_trans _ _ _ c.in_ok-high-in-len1-up.ensures.grows c.in_ok-low-in-len1-up.ensures.grows) c.in_ok-node-in-len1-up.ensures.grows

@@ -43,3 +43,9 @@ returns-clause-conditions c =
     take_all c.loop-community.community-index c.args.communities.now (omega arith) in
     subst (λ (l : List ℕ). AreConditions c.args.store.now c.loop-community.store c.args.carried.now l c.loop-community.cases) e
     c.loop-community.invariant.conditions
+
+pub returns-in_err-node-clause-grows : goal.returns-in_err-node-clause-grows
+returns-in_err-node-clause-grows c = grows_trans _ _ _ c.loop-community.invariant.grows c.in_err-node.ensures.grows
+
+pub returns-in_err-push-clause-grows : goal.returns-in_err-push-clause-grows
+returns-in_err-push-clause-grows c = grows_trans _ _ _ c.loop-community.invariant.grows c.in_ok-node.ensures.grows

@@ -1,5 +1,5 @@
 use Rattle.std.proofs.Common.{◌≡◌, List, ℕ, sym, subst, ◌∙◌, ap}
-use Rattle.dd_core.proofs.ShownLemmas.{grows_trans}
+use Rattle.dd_core.proofs.ShownLemmas.{grows_trans, grows_inside}
 use Rattle.policy_dd.specs.Exact.{AreConditions}
 use Rattle.policy_dd.proofs.ExactLemmas.{lines_now, tell_kept, told_inside, exact_answer_is, exactly_never}
 use Rattle.policy_dd.proofs.MatchLemmas.{all_within}
@@ -32,3 +32,16 @@ returns-clause-answer c =
     c.as_slice-2.result.now (lines_now c.as_slice-3.result.now) c.args.lines.now c.in_ok-none.none c.in_ok-node.node c.requires.inside
     c.in_ok-conditions.ensures.grows c.in_ok-none.ensures.grows conditions e c.in_ok-none.ensures.not
     (ap lines_now c.as_slice-3.ensures.value ∙ c.in_ok-lines.ensures) c.in_ok-node.ensures.answer
+
+pub not-requires : goal.not-requires
+not-requires c = grows_inside _ _ _ c.in_ok-conditions.ensures.grows c.requires.inside.others
+
+pub returns-in_err-lines-clause-grows : goal.returns-in_err-lines-clause-grows
+returns-in_err-lines-clause-grows c = grows_trans _ _ _ c.in_ok-conditions.ensures.grows c.in_ok-none.ensures.grows
+
+pub returns-in_err-node-clause-grows : goal.returns-in_err-node-clause-grows
+returns-in_err-node-clause-grows c = grows_trans _ _ _ (grows_trans _ _ _ c.in_ok-conditions.ensures.grows c.in_ok-none.ensures.grows)
+    c.in_err-node.ensures.grows
+
+pub returns-clause-grows : goal.returns-clause-grows
+returns-clause-grows c = grows_trans _ _ _ (grows_trans _ _ _ c.in_ok-conditions.ensures.grows c.in_ok-none.ensures.grows) c.in_ok-node.ensures.grows

@@ -1,7 +1,7 @@
 use Rattle.std.proofs.Common.{◌≡◌, ◌&&◌, ◌∙◌, ap, sym, subst, false, true, List, ℕ}
 use Rattle.base_kit.specs.Sets.{has}
 use Rattle.dd_core.specs.Sets.{value_of}
-use Rattle.dd_core.proofs.ShownLemmas.{grows_trans}
+use Rattle.dd_core.proofs.ShownLemmas.{grows_trans, grows_inside}
 use Rattle.policy_dd.specs.Edge.{case_or, keys_of, never}
 use Rattle.policy_dd.specs.Tables.{IsSelection}
 use Rattle.policy_dd.proofs.MatchLemmas.{inside_kept}
@@ -46,3 +46,50 @@ counts-requires c = λ k there.
     let in_first : has (keys_of c.args.seen.now.first.adds) k ≡ true = ap (λ (l : List (ℕ × ℕ)). has (keys_of l) k) (sym c.as_slice-2.ensures)
     ∙ c.in_ok-adds.ensures.limited.keys_are k in_adds in
     c.requires.first.adds_small k in_first
+
+pub limit-requires-clause-with_inside : goal.limit-requires-clause-with_inside
+limit-requires-clause-with_inside c = grows_inside _ _ _ c.in_ok-permit.ensures.grows c.requires.first.permit
+
+pub limit-requires-2-clause-with_inside : goal.limit-requires-2-clause-with_inside
+limit-requires-2-clause-with_inside c = grows_inside _ _ _ (grows_trans _ _ _ c.in_ok-permit.ensures.grows c.in_ok-lps.ensures.grows) c.requires.second.permit
+
+pub and-requires-2-clause-a_inside : goal.and-requires-2-clause-a_inside
+and-requires-2-clause-a_inside c = grows_inside _ _ _ (grows_trans _ _ _ c.in_ok-lps.ensures.grows c.in_ok-adds.ensures.grows) c.in_ok-permit.ensures.and.inside
+
+pub and-requires-2-clause-b_inside : goal.and-requires-2-clause-b_inside
+and-requires-2-clause-b_inside c = grows_inside _ _ _ (grows_trans _ _ _
+    (grows_trans _ _ _ c.in_ok-permit.ensures.grows c.in_ok-lps.ensures.grows) c.in_ok-adds.ensures.grows) c.requires.beyond
+
+pub outs_of-requires-clause-permit_inside : goal.outs_of-requires-clause-permit_inside
+outs_of-requires-clause-permit_inside c = grows_inside _ _ _
+    (grows_trans _ _ _ (grows_trans _ _ _ c.in_ok-lps.ensures.grows c.in_ok-adds.ensures.grows) c.in_ok-rest.ensures.grows) c.in_ok-permit.ensures.and.inside
+
+pub returns-in_err-lps-clause-grows : goal.returns-in_err-lps-clause-grows
+returns-in_err-lps-clause-grows c = grows_trans _ _ _ c.in_ok-permit.ensures.grows c.in_err-lps.ensures.grows
+
+pub returns-in_err-adds-clause-grows : goal.returns-in_err-adds-clause-grows
+returns-in_err-adds-clause-grows c = grows_trans _ _ _ (grows_trans _ _ _ c.in_ok-permit.ensures.grows c.in_ok-lps.ensures.grows) c.in_err-adds.ensures.grows
+
+pub returns-in_err-rest-clause-grows : goal.returns-in_err-rest-clause-grows
+returns-in_err-rest-clause-grows c = grows_trans _ _ _ (grows_trans _ _ _
+    (grows_trans _ _ _ c.in_ok-permit.ensures.grows c.in_ok-lps.ensures.grows) c.in_ok-adds.ensures.grows) c.in_err-rest.ensures.grows
+
+pub returns-in_err-outs-clause-grows : goal.returns-in_err-outs-clause-grows
+returns-in_err-outs-clause-grows c = grows_trans _ _ _ (grows_trans _ _ _
+    (grows_trans _ _ _ (grows_trans _ _ _ c.in_ok-permit.ensures.grows c.in_ok-lps.ensures.grows) c.in_ok-adds.ensures.grows) c.in_ok-rest.ensures.grows)
+    c.in_err-outs.ensures.grows
+
+pub returns-in_err-counts-clause-grows : goal.returns-in_err-counts-clause-grows
+returns-in_err-counts-clause-grows c = grows_trans _ _ _ (grows_trans _ _ _
+    (grows_trans _ _ _ (grows_trans _ _ _ c.in_ok-permit.ensures.grows c.in_ok-lps.ensures.grows) c.in_ok-adds.ensures.grows) c.in_ok-rest.ensures.grows)
+    c.in_ok-outs.ensures.grows
+
+pub returns-in_err-communities-clause-grows : goal.returns-in_err-communities-clause-grows
+returns-in_err-communities-clause-grows c = grows_trans _ _ _
+    (grows_trans _ _ _ (grows_trans _ _ _ (grows_trans _ _ _ c.in_ok-permit.ensures.grows c.in_ok-lps.ensures.grows) c.in_ok-adds.ensures.grows)
+    c.in_ok-rest.ensures.grows) c.in_ok-outs.ensures.grows
+
+pub returns-clause-grows : goal.returns-clause-grows
+returns-clause-grows c = grows_trans _ _ _ (grows_trans _ _ _
+    (grows_trans _ _ _ (grows_trans _ _ _ c.in_ok-permit.ensures.grows c.in_ok-lps.ensures.grows) c.in_ok-adds.ensures.grows) c.in_ok-rest.ensures.grows)
+    c.in_ok-outs.ensures.grows

@@ -65,3 +65,9 @@ returns-clause-limited c =
     subst (λ (l : List (ℕ × ℕ)). IsSelection c.loop-case.store never
     (λ k set. case_or c.args.store.now set c.args.cases.now k false && value_of c.args.store.now set c.args.with) (keys_of l) c.loop-case.limited)
     (take_all c.loop-case.case-index c.args.cases.now (omega arith)) c.loop-case.invariant.limited
+
+pub returns-in_err-node-clause-grows : goal.returns-in_err-node-clause-grows
+returns-in_err-node-clause-grows c = grows_trans _ _ _ c.loop-case.invariant.grows c.in_err-node.ensures.grows
+
+pub returns-in_err-limited-clause-grows : goal.returns-in_err-limited-clause-grows
+returns-in_err-limited-clause-grows c = grows_trans _ _ _ c.loop-case.invariant.grows c.in_ok-node.ensures.grows

@@ -63,3 +63,6 @@ returns-clause-outs c =
     (subst (λ (l : List ℕ). IsSelection c.loop-key.store (carried_by_rest c.args.store.now c.args.rest)
     (λ k set. value_of c.args.store.now set c.args.permit && has_in c.args.store.now c.args.carried.now set k) l c.loop-key.outs) e
     c.loop-key.invariant.outs)
+
+pub returns-in_err-outs-clause-grows : goal.returns-in_err-outs-clause-grows
+returns-in_err-outs-clause-grows c = grows_trans _ _ _ c.loop-key.invariant.grows c.in_err-outs.ensures.grows

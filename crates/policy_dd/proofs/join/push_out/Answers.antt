@@ -30,3 +30,21 @@ returns-clause-pushed c =
     c.args.carried.now c.args.rest c.args.community c.in_ok-there.there c.in_ok-plain.plain c.in_ok-here.here c.in_ok-node.node c.in_ok-there.ensures.grows
     c.in_ok-plain.ensures.grows c.in_ok-here.ensures.grows c.in_ok-node.ensures.grows c.requires.permit_inside c.requires.inside c.requires.rest_inside
     c.in_ok-there.ensures.var c.in_ok-plain.ensures.and c.in_ok-here.ensures.condition c.in_ok-node.ensures.and c.in_ok-more.ensures
+
+pub returns-in_err-plain-clause-grows : goal.returns-in_err-plain-clause-grows
+returns-in_err-plain-clause-grows c = grows_trans _ _ _ c.in_ok-there.ensures.grows c.in_err-plain.ensures.grows
+
+pub returns-in_err-here-clause-grows : goal.returns-in_err-here-clause-grows
+returns-in_err-here-clause-grows c = grows_trans _ _ _ (grows_trans _ _ _ c.in_ok-there.ensures.grows c.in_ok-plain.ensures.grows) c.in_err-here.ensures.grows
+
+pub returns-in_err-node-clause-grows : goal.returns-in_err-node-clause-grows
+returns-in_err-node-clause-grows c = grows_trans _ _ _ (grows_trans _ _ _
+    (grows_trans _ _ _ c.in_ok-there.ensures.grows c.in_ok-plain.ensures.grows) c.in_ok-here.ensures.grows) c.in_err-node.ensures.grows
+
+pub returns-in_err-more-clause-grows : goal.returns-in_err-more-clause-grows
+returns-in_err-more-clause-grows c = grows_trans _ _ _ (grows_trans _ _ _
+    (grows_trans _ _ _ c.in_ok-there.ensures.grows c.in_ok-plain.ensures.grows) c.in_ok-here.ensures.grows) c.in_ok-node.ensures.grows
+
+pub returns-clause-grows : goal.returns-clause-grows
+returns-clause-grows c = grows_trans _ _ _ (grows_trans _ _ _
+    (grows_trans _ _ _ c.in_ok-there.ensures.grows c.in_ok-plain.ensures.grows) c.in_ok-here.ensures.grows) c.in_ok-node.ensures.grows

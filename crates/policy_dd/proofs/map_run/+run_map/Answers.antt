@@ -3,7 +3,7 @@ use Rattle.std.specs.List.{AllByRecursion}
 use Rattle.std.proofs.lemmas.List.{take-append-drop}
 use Rattle.route_maps.specs.declared.plain.PlainEntry.{PlainEntry}
 use Rattle.route_maps.specs.Within.{IsEntryWithin}
-use Rattle.dd_core.proofs.ShownLemmas.{grows_refl}
+use Rattle.dd_core.proofs.ShownLemmas.{grows_refl, grows_trans}
 use Rattle.policy_dd.specs.MapRun.{IsMapFn}
 use Rattle.policy_dd.proofs.MatchLemmas.{inside_kept}
 use Rattle.policy_dd.proofs.DecideLemmas.{all_drop, no_items, one_item}
@@ -46,3 +46,14 @@ returns-in_ok-m-in_default-clause-run t c =
     c.in_ok-last-in_default.last c.in_ok-m-in_default.m c.in_ok-first-in_default.ensures.grows c.in_ok-last-in_default.ensures.grows
     c.in_ok-m-in_default.ensures.grows c.requires.inside c.in_ok-first-in_default.ensures.run c.in_ok-last-in_default.ensures.run
     c.in_ok-m-in_default.ensures.either)
+
+pub returns-in_err-last-in_default-clause-grows : goal.returns-in_err-last-in_default-clause-grows
+returns-in_err-last-in_default-clause-grows t c = grows_trans _ _ _ c.in_ok-first-in_default.ensures.grows c.in_err-last-in_default.ensures.grows
+
+pub returns-in_err-m-in_default-clause-grows : goal.returns-in_err-m-in_default-clause-grows
+returns-in_err-m-in_default-clause-grows t c = grows_trans _ _ _
+    (grows_trans _ _ _ c.in_ok-first-in_default.ensures.grows c.in_ok-last-in_default.ensures.grows) c.in_err-m-in_default.ensures.grows
+
+pub returns-in_ok-m-in_default-clause-grows : goal.returns-in_ok-m-in_default-clause-grows
+returns-in_ok-m-in_default-clause-grows t c = grows_trans _ _ _
+    (grows_trans _ _ _ c.in_ok-first-in_default.ensures.grows c.in_ok-last-in_default.ensures.grows) c.in_ok-m-in_default.ensures.grows

@@ -41,3 +41,32 @@ returns-clause-pushed c =
     c.in_ok-decides.decides c.in_ok-before.before c.in_ok-here.ensures.grows c.in_ok-decides.ensures.grows c.in_ok-before.ensures.grows c.requires.inside
     c.in_ok-here.ensures.entry c.in_ok-decides.ensures.without c.in_ok-before.ensures.or c.taken.new.store c.in_ok-pushed.pushed
     c.in_ok-pushed.ensures.grows c.if-not-entry.false c.in_ok-pushed.ensures.taken
+
+pub or-requires-clause-b_inside : goal.or-requires-clause-b_inside
+or-requires-clause-b_inside c = grows_inside _ _ _ c.in_ok-decides.ensures.grows c.in_ok-here.ensures.entry.inside
+
+pub taken-requires-clause-decides_inside : goal.taken-requires-clause-decides_inside
+taken-requires-clause-decides_inside c = grows_inside _ _ _ c.in_ok-before.ensures.grows c.in_ok-decides.ensures.without.inside
+
+pub returns-in_err-decides-clause-grows : goal.returns-in_err-decides-clause-grows
+returns-in_err-decides-clause-grows c = grows_trans _ _ _ c.in_ok-here.ensures.grows c.in_err-decides.ensures.grows
+
+pub returns-in_err-before-clause-grows : goal.returns-in_err-before-clause-grows
+returns-in_err-before-clause-grows c = grows_trans _ _ _ (grows_trans _ _ _ c.in_ok-here.ensures.grows c.in_ok-decides.ensures.grows)
+    c.in_err-before.ensures.grows
+
+pub returns-then-not-entry-clause-grows : goal.returns-then-not-entry-clause-grows
+returns-then-not-entry-clause-grows c = grows_trans _ _ _ (grows_trans _ _ _ c.in_ok-here.ensures.grows c.in_ok-decides.ensures.grows)
+    c.in_ok-before.ensures.grows
+
+pub returns-then-is_same-clause-grows : goal.returns-then-is_same-clause-grows
+returns-then-is_same-clause-grows c = grows_trans _ _ _ (grows_trans _ _ _ c.in_ok-here.ensures.grows c.in_ok-decides.ensures.grows)
+    c.in_ok-before.ensures.grows
+
+pub returns-in_err-pushed-clause-grows : goal.returns-in_err-pushed-clause-grows
+returns-in_err-pushed-clause-grows c = grows_trans _ _ _ (grows_trans _ _ _
+    (grows_trans _ _ _ c.in_ok-here.ensures.grows c.in_ok-decides.ensures.grows) c.in_ok-before.ensures.grows) c.in_err-pushed.ensures.grows
+
+pub returns-clause-grows : goal.returns-clause-grows
+returns-clause-grows c = grows_trans _ _ _ (grows_trans _ _ _
+    (grows_trans _ _ _ c.in_ok-here.ensures.grows c.in_ok-decides.ensures.grows) c.in_ok-before.ensures.grows) c.in_ok-pushed.ensures.grows

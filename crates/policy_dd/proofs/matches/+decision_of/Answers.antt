@@ -3,6 +3,7 @@ use Rattle.std.specs.List.{AllByRecursion}
 use Rattle.std.proofs.lemmas.List.{take-append-drop}
 use Rattle.cfg_ast.specs.declared.policy.CommunityLine.{CommunityLine}
 use Rattle.route_maps.specs.Within.{IsLineWithin}
+use Rattle.dd_core.proofs.ShownLemmas.{grows_inside, grows_trans}
 use Rattle.policy_dd.specs.Matches.{IsDecision}
 use Rattle.policy_dd.proofs.MatchLemmas.{inside_kept}
 use Rattle.policy_dd.proofs.DecideLemmas.{all_drop, decision_append}
@@ -29,3 +30,20 @@ returns-in_ok-decision-in_default-clause-decision t c =
     c.in_ok-first-in_default.first c.in_ok-last-in_default.last c.in_ok-decision-in_default.decision c.requires.inside
     c.in_ok-first-in_default.ensures.grows c.in_ok-last-in_default.ensures.grows c.in_ok-first-in_default.ensures.decision
     c.in_ok-last-in_default.ensures.decision c.in_ok-decision-in_default.ensures.joined)
+
+pub first_decides-requires-clause-first_inside : goal.first_decides-requires-clause-first_inside
+first_decides-requires-clause-first_inside t c = record {
+  holds = grows_inside _ _ _ c.in_ok-last-in_default.ensures.grows c.in_ok-first-in_default.ensures.decision.holds.inside;
+  permits = grows_inside _ _ _ c.in_ok-last-in_default.ensures.grows c.in_ok-first-in_default.ensures.decision.permits.inside;
+}
+
+pub returns-in_err-last-in_default-clause-grows : goal.returns-in_err-last-in_default-clause-grows
+returns-in_err-last-in_default-clause-grows t c = grows_trans _ _ _ c.in_ok-first-in_default.ensures.grows c.in_err-last-in_default.ensures.grows
+
+pub returns-in_err-decision-in_default-clause-grows : goal.returns-in_err-decision-in_default-clause-grows
+returns-in_err-decision-in_default-clause-grows t c = grows_trans _ _ _
+    (grows_trans _ _ _ c.in_ok-first-in_default.ensures.grows c.in_ok-last-in_default.ensures.grows) c.in_err-decision-in_default.ensures.grows
+
+pub returns-in_ok-decision-in_default-clause-grows : goal.returns-in_ok-decision-in_default-clause-grows
+returns-in_ok-decision-in_default-clause-grows t c = grows_trans _ _ _
+    (grows_trans _ _ _ c.in_ok-first-in_default.ensures.grows c.in_ok-last-in_default.ensures.grows) c.in_ok-decision-in_default.ensures.grows

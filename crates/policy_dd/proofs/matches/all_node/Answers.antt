@@ -42,3 +42,9 @@ returns-clause-all c =
     let none = c.loop-place-test.false in
     let e : c.loop-place.place ≡ 0 = omega arith in
     rw e at c.loop-place.invariant.all
+
+pub returns-in_err-here-clause-grows : goal.returns-in_err-here-clause-grows
+returns-in_err-here-clause-grows c = grows_trans _ _ _ c.loop-place.invariant.grows c.in_err-here.ensures.grows
+
+pub returns-in_err-all-clause-grows : goal.returns-in_err-all-clause-grows
+returns-in_err-all-clause-grows c = grows_trans _ _ _ (grows_trans _ _ _ c.loop-place.invariant.grows c.in_ok-here.ensures.grows) c.in_err-all.ensures.grows

@@ -1,6 +1,6 @@
 use Rattle.std.proofs.Common.{◌≡◌, ◌-◌, arith}
 use Rattle.route_maps.specs.Within.{IsListWithin}
-use Rattle.dd_core.proofs.ShownLemmas.{grows_refl, grows_trans}
+use Rattle.dd_core.proofs.ShownLemmas.{grows_refl, grows_trans, grows_inside}
 use Rattle.policy_dd.proofs.MatchLemmas.{inside_kept, lists_step, lists_none, drop_item, all_at}
 use Rattle.policy_dd.proofs.matches.lists_node.Goals as goal
 
@@ -40,3 +40,12 @@ returns-clause-lists c =
     let none = c.loop-place-test.false in
     let e : c.loop-place.place ≡ 0 = omega arith in
     rw e at c.loop-place.invariant.any
+
+pub or-requires-clause-b_inside : goal.or-requires-clause-b_inside
+or-requires-clause-b_inside c = grows_inside _ _ _ c.in_ok-here.ensures.grows c.loop-place.invariant.any.inside
+
+pub returns-in_err-here-clause-grows : goal.returns-in_err-here-clause-grows
+returns-in_err-here-clause-grows c = grows_trans _ _ _ c.loop-place.invariant.grows c.in_err-here.ensures.grows
+
+pub returns-in_err-any-clause-grows : goal.returns-in_err-any-clause-grows
+returns-in_err-any-clause-grows c = grows_trans _ _ _ (grows_trans _ _ _ c.loop-place.invariant.grows c.in_ok-here.ensures.grows) c.in_err-any.ensures.grows

@@ -33,3 +33,18 @@ returns-clause-crossed c =
     c.in_ok-first.ensures.grows c.in_ok-arrived.ensures.grows c.in_ok-second.ensures.grows c.in_ok-end.ensures.grows _ (rw c.new.ensures refl)
     (rw c.new.ensures (start_inside _ _ _ c.requires.others c.constant-always.ensures.constant)) c.constant-always.ensures.constant
     c.in_ok-first.ensures.run c.in_ok-arrived.ensures.sent c.in_ok-second.ensures.run c.in_ok-end.ensures.after
+
+pub returns-in_err-arrived-clause-grows : goal.returns-in_err-arrived-clause-grows
+returns-in_err-arrived-clause-grows c = grows_trans _ _ _ c.in_ok-first.ensures.grows c.in_err-arrived.ensures.grows
+
+pub returns-in_err-second-clause-grows : goal.returns-in_err-second-clause-grows
+returns-in_err-second-clause-grows c = grows_trans _ _ _ (grows_trans _ _ _ c.in_ok-first.ensures.grows c.in_ok-arrived.ensures.grows)
+    c.in_err-second.ensures.grows
+
+pub returns-in_err-end-clause-grows : goal.returns-in_err-end-clause-grows
+returns-in_err-end-clause-grows c = grows_trans _ _ _ (grows_trans _ _ _
+    (grows_trans _ _ _ c.in_ok-first.ensures.grows c.in_ok-arrived.ensures.grows) c.in_ok-second.ensures.grows) c.in_err-end.ensures.grows
+
+pub returns-clause-grows : goal.returns-clause-grows
+returns-clause-grows c = grows_trans _ _ _ (grows_trans _ _ _
+    (grows_trans _ _ _ c.in_ok-first.ensures.grows c.in_ok-arrived.ensures.grows) c.in_ok-second.ensures.grows) c.in_ok-end.ensures.grows

@@ -65,3 +65,18 @@ returns-clause-edge c =
     edge_is c.args.store.now c.others.new.self c.cross.new.store c.kept_beyond.new.store c.joined.new.store c.in_ok-others.others c.in_ok-beyond.beyond
     c.args.out.now c.args.sends c.args.into.now c.in_ok-seen.seen c.in_ok-edge.edge c.in_ok-others.ensures.grows c.in_ok-seen.ensures.grows
     c.in_ok-beyond.ensures.grows c.in_ok-edge.ensures.grows fit fit' c.in_ok-others.ensures.others seen beyond c.in_ok-edge.ensures.joined
+
+pub returns-in_err-seen-clause-grows : goal.returns-in_err-seen-clause-grows
+returns-in_err-seen-clause-grows c = grows_trans _ _ _ c.in_ok-others.ensures.grows c.in_err-seen.ensures.grows
+
+pub returns-in_err-beyond-clause-grows : goal.returns-in_err-beyond-clause-grows
+returns-in_err-beyond-clause-grows c = grows_trans _ _ _ (grows_trans _ _ _ c.in_ok-others.ensures.grows c.in_ok-seen.ensures.grows)
+    c.in_err-beyond.ensures.grows
+
+pub returns-in_err-edge-clause-grows : goal.returns-in_err-edge-clause-grows
+returns-in_err-edge-clause-grows c = grows_trans _ _ _ (grows_trans _ _ _
+    (grows_trans _ _ _ c.in_ok-others.ensures.grows c.in_ok-seen.ensures.grows) c.in_ok-beyond.ensures.grows) c.in_err-edge.ensures.grows
+
+pub returns-clause-grows : goal.returns-clause-grows
+returns-clause-grows c = grows_trans _ _ _ (grows_trans _ _ _
+    (grows_trans _ _ _ c.in_ok-others.ensures.grows c.in_ok-seen.ensures.grows) c.in_ok-beyond.ensures.grows) c.in_ok-edge.ensures.grows

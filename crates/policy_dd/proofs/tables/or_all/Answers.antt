@@ -32,3 +32,6 @@ returns-clause-more c =
     let e : take c.loop-key.key-index c.args.keys.now ≡ c.args.keys.now = take_all c.loop-key.key-index c.args.keys.now (omega arith) in
     subst (λ (l : List ℕ). IsTableGrown c.args.store.now c.loop-key.store c.args.cases c.loop-key.all l
     (λ k set. has l k && value_of c.args.store.now set c.args.node)) e c.loop-key.invariant.more
+
+pub returns-in_err-all-clause-grows : goal.returns-in_err-all-clause-grows
+returns-in_err-all-clause-grows c = grows_trans _ _ _ c.loop-key.invariant.grows c.in_err-all.ensures.grows
