@@ -7,7 +7,7 @@ use Rattle.std.proofs.lemmas.List.{get_or-set_same, get_or-set_other, length_pus
 use Rattle.std.proofs.lemmas.List.Elements.{All-contains, All-weaker, All-push, All-get_or, Contains-append_left, Contains-push, Contains-push_cases}
 use Rattle.std.proofs.lemmas.Map.Steps.{le-length_from_below}
 use Rattle.std.proofs.Math.ListN.{length-set}
-use Rattle.refine_partition.specs.ClassNames.{ClassNames, name_of}
+use Rattle.refine_partition.specs.ClassNames.{ClassNames, class_name}
 use Rattle.refine_partition.specs.Classes.{AreNewClasses}
 use Rattle.refine_partition.specs.Loose.{AreListed, AreUsed, AreStaying, IsPieceOf, IsMoved, AreMoved}
 use Rattle.refine_partition.proofs.PlanLemmas.{contains_or_not}
@@ -38,9 +38,9 @@ pub record Moving (numbers classes touched done : List ℕ) (before : ℕ) (next
   pub each : All (λ block. (class : ℕ) × (names class ≡ Some block)) touched
 
 pub moving_none : (numbers classes touched reached : List ℕ) (before : ℕ) (names : ClassNames) → AreStaying numbers classes touched names →
-    All (λ n. n < before) numbers → Moving numbers classes touched (take 0 reached) before numbers [] (λ class. name_of names class)
+    All (λ n. n < before) numbers → Moving numbers classes touched (take 0 reached) before numbers [] (λ class. class_name names class)
 moving_none numbers classes touched reached before names staying low =
-    let lower : (class number : ℕ) → name_of names class ≡ Some number → number < before = λ class number found.
+    let lower : (class number : ℕ) → class_name names class ≡ Some number → number < before = λ class number found.
     let (u, hu, is, has) = (staying.only class number found).1.member in
     let lt : slice_index numbers u < before = All-get_or (λ n. n < before) numbers u 0 hu low in
     omega arith in
@@ -342,22 +342,22 @@ listed_new numbers lists empty listed none =
 -- the next router moves
 pub moving_next : (numbers classes touched done : List ℕ) (router : ℕ) (before : ℕ) (next next' origins origins' : List ℕ)
     (names names' : ClassNames) (lists lists' : List (Vec ℕ Global)) (class number origin : ℕ) →
-    Moving numbers classes touched done before next origins (λ c. name_of names c) → length lists ≡ before + length origins →
+    Moving numbers classes touched done before next origins (λ c. class_name names c) → length lists ≡ before + length origins →
     router < length numbers → slice_index classes router ≡ class → slice_index next router ≡ origin →
     IsPieceOf names names' lists lists' origins origins' class origin number → IsMoved next next' router number →
-    Moving numbers classes touched (done ++ router ∷ []) before next' origins' (λ c. name_of names' c)
+    Moving numbers classes touched (done ++ router ∷ []) before next' origins' (λ c. class_name names' c)
 moving_next numbers classes touched done router before next next' origins origins' names names' lists lists' class number origin so_far size inside class_is
     origin_is piece moved = elim piece [
       | inl (found, same_names, same_lists, same_origins) ↦
-          rw (same_names, same_origins) (moving_known numbers classes touched done router before next next' origins (λ c. name_of names c) number so_far
+          rw (same_names, same_origins) (moving_known numbers classes touched done router before next next' origins (λ c. class_name names c) number so_far
           inside
-          (ap (λ c. name_of names c) class_is ∙ found) moved)
+          (ap (λ c. class_name names c) class_is ∙ found) moved)
       | inr new ↦
-          moving_new numbers classes touched done router before next next' origins origins' (λ c. name_of names c) (λ c. name_of names' c) number origin
+          moving_new numbers classes touched done router before next next' origins origins' (λ c. class_name names c) (λ c. class_name names' c) number origin
           so_far inside
-          (ap (λ c. name_of names c) class_is ∙ new.none)
+          (ap (λ c. class_name names c) class_is ∙ new.none)
           (new.number_is ∙ size)
-          (ap (λ c. name_of names' c) class_is ∙ new.named.named)
+          (ap (λ c. class_name names' c) class_is ∙ new.named.named)
           (λ other ne. new.named.others other (λ e. ne (e ∙ sym class_is)))
           (sym origin_is)
           new.origins_are
@@ -366,7 +366,7 @@ moving_next numbers classes touched done router before next next' origins origin
 
 -- the class has its piece's number
 pub piece_named : (names names' : ClassNames) (lists lists' : List (Vec ℕ Global)) (origins origins' : List ℕ) (class origin number : ℕ) →
-    IsPieceOf names names' lists lists' origins origins' class origin number → name_of names' class ≡ Some number
+    IsPieceOf names names' lists lists' origins origins' class origin number → class_name names' class ≡ Some number
 piece_named names names' lists lists' origins origins' class origin number piece = elim piece [
   | inl (found, same_names, same_lists, same_origins) ↦ rw same_names found
   | inr new ↦ new.named.named
@@ -393,7 +393,7 @@ piece_size names names' lists lists' origins origins' class origin number before
 
 pub piece_known : (numbers classes touched done : List ℕ) (before : ℕ) (next : List ℕ) (names names' : ClassNames)
     (lists lists' : List (Vec ℕ Global)) (origins origins' : List ℕ) (class origin number : ℕ) →
-    Moving numbers classes touched done before next origins (λ c. name_of names c) → length lists ≡ before + length origins →
+    Moving numbers classes touched done before next origins (λ c. class_name names c) → length lists ≡ before + length origins →
     IsPieceOf names names' lists lists' origins origins' class origin number → number < length lists'
 piece_known numbers classes touched done before next names names' lists lists' origins origins' class origin number so_far size piece = elim piece [
   | inl (found, same_names, same_lists, same_origins) ↦ let lt = so_far.below class number found in let e = ap length same_lists in omega arith

@@ -51,7 +51,8 @@ pub planned : (graph : ActGraph) (taken : ℕ) (numbers : List ℕ) (blocks : Li
     AreReached classes (length blocks) reached → IsStrictlyIncreasing touched →
     AreTouched numbers reached touched → IsQueue numbers touched queue → IsRenumbered numbers classes queue (length blocks) next origins →
     IsPlanned graph taken numbers (length blocks) next origins touched
-planned graph taken numbers blocks arrivals classes reached touched queue next origins class_count total numbered arrived are new rising touches queued renumbered =
+planned graph taken numbers blocks arrivals classes reached touched queue next origins class_count total numbered arrived are new rising touches queued
+    renumbered =
     let before : ℕ = length blocks in
     let low : (u : ℕ) → u < graph.count → slice_index numbers u < before = λ u hu. numbered.below u 0 (omega arith) in
     let in_queue : (u : ℕ) → u < graph.count → Contains touched (slice_index numbers u) → Contains queue u =

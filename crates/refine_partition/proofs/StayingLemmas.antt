@@ -11,7 +11,7 @@ use Rattle.std.proofs.lemmas.List.Sorted.{IsPermutation-swap_remove, IsPermutati
 use Rattle.std.proofs.Math.ListN.{length-set}
 use Rattle.refine_partition.specs.Kept.{is_numbered}
 use Rattle.refine_partition.specs.Members.{AreBlocks, AreBlockMembers}
-use Rattle.refine_partition.specs.ClassNames.{ClassNames, name_of}
+use Rattle.refine_partition.specs.ClassNames.{ClassNames, class_name}
 use Rattle.refine_partition.specs.Loose.{AreListed, AreUsed, AreFiner, HasMember, IsStillListed, IsStayingClass, IsStaying, IsNamedAs, AreStaying}
 use Rattle.refine_partition.proofs.QueueLemmas.{rising}
 use Rattle.refine_partition.proofs.MemberLemmas.{same_test, test_same, filter_contains, Contains-cons, members_all, member}
@@ -166,12 +166,12 @@ pub staying_more : (numbers classes blocks : List ℕ) (lists : List (Vec ℕ Gl
 staying_more numbers classes blocks lists names names' block class list are finer new listed known read staying named =
     let own : IsStaying numbers classes block class = staying_of numbers classes lists block class list listed known read staying in
     let (u, hu, is, has) = own.member in
-    let by_class : (a n : ℕ) → name_of names' a ≡ Some n → ((a ≡ class) × (n ≡ block)) ⊎ ((a ≢ class) × (name_of names a ≡ Some n)) =
+    let by_class : (a n : ℕ) → class_name names' a ≡ Some n → ((a ≡ class) × (n ≡ block)) ⊎ ((a ≢ class) × (class_name names a ≡ Some n)) =
     λ a n found. elim (cases_eq a class) [
-      | inl e ↦ inl (e, let found' = ap (λ i. name_of names' i) (sym e) ∙ found in let named' = named.named in cc)
+      | inl e ↦ inl (e, let found' = ap (λ i. class_name names' i) (sym e) ∙ found in let named' = named.named in cc)
       | inr ne ↦ inr (ne, sym (named.others a ne) ∙ found)
     ] in
-    let no_other : (a : ℕ) → name_of names a ≡ Some block → ⊥ = λ a found. new (are.only a block found).0 in
+    let no_other : (a : ℕ) → class_name names a ≡ Some block → ⊥ = λ a found. new (are.only a block found).0 in
     record {
       only = λ a n found. elim (by_class a n found) [
         | inl e ↦ (
@@ -190,8 +190,8 @@ staying_more numbers classes blocks lists names names' block class list are fine
           | inr o' ↦ are.one a b n o.1 o'.1
         ]
       ];
-      each = All-push (λ b. (c : ℕ) × (name_of names' c ≡ Some b)) blocks block
-          (All-weaker (λ b. (c : ℕ) × (name_of names c ≡ Some b)) (λ b. (c : ℕ) × (name_of names' c ≡ Some b)) (λ b (c, found). elim (cases_eq c class) [
+      each = All-push (λ b. (c : ℕ) × (class_name names' c ≡ Some b)) blocks block
+          (All-weaker (λ b. (c : ℕ) × (class_name names c ≡ Some b)) (λ b. (c : ℕ) × (class_name names' c ≡ Some b)) (λ b (c, found). elim (cases_eq c class) [
             | inl e ↦
                 let (w, hw, at, class_is) = (are.only c b found).1.member in
                 let same : b ≡ block = sym at ∙ finer w u hw hu (class_is ∙ e ∙ sym has) ∙ is in
@@ -201,7 +201,7 @@ staying_more numbers classes blocks lists names names' block class list are fine
           (class, named.named);
     }
 
-pub staying_none : (numbers classes blocks : List ℕ) (names : ClassNames) → ((class : ℕ) → name_of names class ≡ None) →
+pub staying_none : (numbers classes blocks : List ℕ) (names : ClassNames) → ((class : ℕ) → class_name names class ≡ None) →
     AreStaying numbers classes (take 0 blocks) names
 staying_none numbers classes blocks names none = record {
   only = λ class number is. let no = none class in absurd cc;

@@ -16,8 +16,8 @@ abbrev pub table_name : {V : Type 0} → Option (HashMap ℕ V (BuildHasherDefau
 table_name None class = None
 table_name (Some table) class = get nat_eq table class
 
-abbrev pub name_of : {V : Type 0} → NamesOf V → ℕ → Option V
-name_of names class = option_or (table_name names.table class) (named_among class names.few.items None)
+abbrev pub class_name : {V : Type 0} → NamesOf V → ℕ → Option V
+class_name names class = option_or (table_name names.table class) (named_among class names.few.items None)
 
 -- names that are numbers
 abbrev pub ClassNames : Type 0

@@ -1,13 +1,13 @@
 -- Routers in classes by the acts of their edges into one block.
 use Rattle.std.specs.Prelude.{◌≡◌, ◌≢◌, ℕ, ◌+◌, ◌<◌, ◌≤◌, List, [], ◌∷◌, ◌++◌, length, slice_index, All, Any, Contains, ◌⊎◌, Some, None}
-use Rattle.refine_partition.specs.ClassNames.{ClassNames, name_of}
+use Rattle.refine_partition.specs.ClassNames.{ClassNames, class_name}
 use Rattle.refine_partition.specs.declared.imports.Import.{Import}
 
 -- the class has the name, which is the next one if it had none, and all others keep theirs
 pub record IsNamed (old new : ClassNames) (class next name : ℕ) : Type 0 where
-  pub named : name_of new class ≡ Some name
-  pub others : (other : ℕ) → other ≢ class → name_of new other ≡ name_of old other
-  pub was : (name_of old class ≡ Some name) ⊎ ((name_of old class ≡ None) × (name ≡ next))
+  pub named : class_name new class ≡ Some name
+  pub others : (other : ℕ) → other ≢ class → class_name new other ≡ class_name old other
+  pub was : (class_name old class ≡ Some name) ⊎ ((class_name old class ≡ None) × (name ≡ next))
 
 -- the importers moved to classes from `fresh` on, those of one class to one class
 pub record IsSeparated (old new : List ℕ) (movers : List Import) (fresh next : ℕ) : Type 0 where

@@ -2,7 +2,7 @@
 use Rattle.std.specs.Prelude.{◌≡◌, ◌≢◌, ℕ, ◌+◌, ◌<◌, ◌≤◌, List, [], ◌∷◌, ◌++◌, length, slice_index, slice_index_or, All, Contains, Vec, Some, None, ◌⊎◌}
 use Rattle.std.specs.declared.alloc.Global.{Global}
 use Rattle.base_kit.specs.declared.act_graph.ActGraph.{ActGraph}
-use Rattle.refine_partition.specs.ClassNames.{ClassNames, name_of}
+use Rattle.refine_partition.specs.ClassNames.{ClassNames, class_name}
 use Rattle.refine_partition.specs.Splits.{StayTogether, IsSplit}
 
 -- each router is in the list of its block, which may have others too
@@ -43,18 +43,18 @@ pub record IsStaying (numbers classes : List ℕ) (block class : ℕ) : Type 0 w
 
 -- the class has the number, and all others have what they had
 pub record IsNamedAs (old new : ClassNames) (class number : ℕ) : Type 0 where
-  pub named : name_of new class ≡ Some number
-  pub others : (other : ℕ) → other ≢ class → name_of new other ≡ name_of old other
+  pub named : class_name new class ≡ Some number
+  pub others : (other : ℕ) → other ≢ class → class_name new other ≡ class_name old other
 
 -- for each of these blocks the class that keeps its number
 pub record AreStaying (numbers classes blocks : List ℕ) (names : ClassNames) : Type 0 where
-  pub only : (class number : ℕ) → name_of names class ≡ Some number → Contains blocks number × IsStaying numbers classes number class
-  pub one : (a b number : ℕ) → name_of names a ≡ Some number → name_of names b ≡ Some number → a ≡ b
-  pub each : All (λ block. (class : ℕ) × (name_of names class ≡ Some block)) blocks
+  pub only : (class number : ℕ) → class_name names class ≡ Some number → Contains blocks number × IsStaying numbers classes number class
+  pub one : (a b number : ℕ) → class_name names a ≡ Some number → class_name names b ≡ Some number → a ≡ b
+  pub each : All (λ block. (class : ℕ) × (class_name names class ≡ Some block)) blocks
 
 -- a new, empty block is the class's piece, and comes from this origin
 pub record IsNewPiece (names names' : ClassNames) (lists lists' : List (Vec ℕ Global)) (origins origins' : List ℕ) (class origin number : ℕ) : Type 0 where
-  pub none : name_of names class ≡ None
+  pub none : class_name names class ≡ None
   pub number_is : number ≡ length lists
   pub named : IsNamedAs names names' class number
   pub list : (v : Vec ℕ Global) × (v.items ≡ []) × (lists' ≡ lists ++ v ∷ [])
@@ -63,7 +63,7 @@ pub record IsNewPiece (names names' : ClassNames) (lists lists' : List (Vec ℕ 
 -- the number of a class that has one, or that of a new, empty block
 abbrev pub IsPieceOf : ClassNames → ClassNames → List (Vec ℕ Global) → List (Vec ℕ Global) → List ℕ → List ℕ → ℕ → ℕ → ℕ → Type 0
 IsPieceOf names names' lists lists' origins origins' class origin number =
-    ((name_of names class ≡ Some number) × (names' ≡ names) × (lists' ≡ lists) × (origins' ≡ origins))
+    ((class_name names class ≡ Some number) × (names' ≡ names) × (lists' ≡ lists) × (origins' ≡ origins))
     ⊎ IsNewPiece names names' lists lists' origins origins' class origin number
 
 -- the router has this number, and all others have what they had

@@ -1,7 +1,7 @@
 //! The names of classes.
 
 ghost use Rattle.std.specs.Prelude.{◌≡◌, ◌≢◌, ℕ, Some, None, OnOk};
-ghost use Rattle.refine_partition.specs.ClassNames.{name_of, table_name, named_among};
+ghost use Rattle.refine_partition.specs.ClassNames.{class_name, table_name, named_among};
 
 use base_kit::NoMemory;
 use std::alloc::Global;
@@ -21,7 +21,7 @@ pub struct ClassNames<V> {
 impl<V: Copy + Drop> ClassNames<V> {
     /// No class has a name.
     pub fn new(alloc: Global) -> Self
-        ensures { (class : ℕ) → name_of result class ≡ None }
+        ensures { (class : ℕ) → class_name result class ≡ None }
     {
         ClassNames {
             alloc,
@@ -32,7 +32,7 @@ impl<V: Copy + Drop> ClassNames<V> {
 
     /// No class has a name any more.
     pub fn clear(&mut self)
-        ensures { (class : ℕ) → name_of self.new class ≡ None }
+        ensures { (class : ℕ) → class_name self.new class ≡ None }
     {
         self.few.clear();
         self.table = None;
@@ -61,7 +61,7 @@ impl<V: Copy + Drop> ClassNames<V> {
 
     /// The name of a class.
     pub fn name(&self, class: usize) -> Option<V>
-        ensures { result ≡ name_of self.now class }
+        ensures { result ≡ class_name self.now class }
     {
         match self.name_in_table(class) {
             Some(name) => Some(name),
@@ -71,8 +71,8 @@ impl<V: Copy + Drop> ClassNames<V> {
 
     /// Gives the class this name.
     pub fn put(&mut self, class: usize, name: V) -> Result<(), NoMemory>
-        ensures named { OnOk result (name_of self.new class ≡ Some name) }
-        ensures others { OnOk result ((other : ℕ) → other ≢ class → name_of self.new other ≡ name_of self.old other) }
+        ensures named { OnOk result (class_name self.new class ≡ Some name) }
+        ensures others { OnOk result ((other : ℕ) → other ≢ class → class_name self.new other ≡ class_name self.old other) }
     {
         if let Some(table) = &mut self.table {
             table.insert(class, name)?;

@@ -2,7 +2,7 @@
 
 ghost use Rattle.std.specs.Prelude.{◌≡◌, ℕ, ◌<◌, ◌≤◌, ◌+◌, ◌^◌, All, IfOk, IfSome, OnOk, Some, length, slice_index_or};
 ghost use Rattle.std.specs.List.Sorted.{IsNonDecreasingBy};
-ghost use Rattle.refine_partition.specs.ClassNames.{name_of};
+ghost use Rattle.refine_partition.specs.ClassNames.{class_name};
 ghost use Rattle.refine_partition.specs.Arrivals.{act_of_import};
 ghost use Rattle.refine_partition.specs.Classes.{IsNamed, IsNoted, IsSeparated, AreClasses, AreReached};
 ghost use Rattle.refine_partition.specs.declared.imports.Import.{Import as AnImport};
@@ -30,7 +30,7 @@ fn name_after(
     class: usize,
     next: usize,
 ) -> Result<usize, NoMemory>
-    requires last { IfSome last (λ l. name_of names.old l.0 ≡ Some l.1) }
+    requires last { IfSome last (λ l. class_name names.old l.0 ≡ Some l.1) }
     ensures { IfOk result (λ name. IsNamed names.old names.new class next name) }
 {
     match last {

@@ -13,9 +13,10 @@
 //!
 //! A split by hand costs as much as there are routers and edges, since it keeps the blocks ready to be
 //! read. A turn of `coarsest` divides the blocks in the same way, but costs only a step for each router
-//! listed in the block and for each edge from it, and a sort of what does not stand in order: the numbers
-//! of the blocks that it divides, and edges of more than a few acts. So `coarsest` is fast if the blocks
-//! whose turn comes are small; larger pieces wait longest for their turn.
+//! listed in the block and for each edge from it, and what it takes to order what does not stand so. The
+//! numbers of the divided blocks are sorted, and the edges, by their acts, only if they are few or one has
+//! an act from 16 on; else they are put into a list for each act. So `coarsest` is fast if the blocks whose
+//! turn comes are small; larger pieces wait longest for their turn.
 #![tactic(auto)]
 
 mod arrivals;

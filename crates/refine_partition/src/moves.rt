@@ -2,7 +2,7 @@
 
 ghost use Rattle.std.specs.Prelude.{◌≡◌, ℕ, ◌<◌, ◌+◌, ◌^◌, All, Contains, IfOk, IfSome, OnOk, Some, length, slice_index};
 ghost use Rattle.std.specs.List.Sorted.{IsStrictlyIncreasing};
-ghost use Rattle.refine_partition.specs.ClassNames.{name_of};
+ghost use Rattle.refine_partition.specs.ClassNames.{class_name};
 ghost use Rattle.refine_partition.specs.Classes.{AreNewClasses};
 ghost use Rattle.refine_partition.specs.Loose.{AreListed, AreMoved, AreUsed, IsMoved, IsPieceOf};
 ghost use Rattle.refine_partition.specs.Touched.{AreTouched};
@@ -62,7 +62,7 @@ fn piece_after(
     origin: u32,
 ) -> Result<u32, NoMemory>
     requires few { length lists.old.items < 2 ^ 32 }
-    requires last { IfSome last (λ l. name_of names.old l.0 ≡ Some l.1) }
+    requires last { IfSome last (λ l. class_name names.old l.0 ≡ Some l.1) }
     ensures { IfOk result (λ number. IsPieceOf names.old names.new lists.old.items lists.new.items origins.old.items origins.new.items class origin number) }
 {
     match last {

@@ -98,15 +98,14 @@ pub fn refined<L: Ledger>(
     ensures turns { turns.new ≤ turns.old + 2 * graph.now.count }
     ensures below { IfOk result (λ numbers. All (λ number. number < length numbers.items) numbers.items) }
 {
-    let _known = graph.count();
+    let count = graph.count();
     let mut blocks = start(alloc, graph)?;
     let (mut queue, mut waits) = all_waiting(alloc, blocks.lists.len() as u32)?;
-    let mut work = Workspace::new(alloc)?;
+    let mut work = Workspace::new(alloc, count)?;
     while let Some(block) = queue.pop_back() {
         waits[block as usize] = false;
         turn(alloc, graph, imports, &mut blocks, block, &mut work, turns)?;
-        let origins = &work.pieces.origins;
-        add_pieces(&mut queue, &mut waits, &blocks.lists, origins)?;
+        add_pieces(&mut queue, &mut waits, &blocks.lists, work.origins())?;
     }
     Ok(blocks.numbers)
 }

@@ -4,12 +4,11 @@ ghost use Rattle.std.specs.Prelude.{◌≡◌, ◌<◌, ◌^◌, IfOk, length};
 ghost use Rattle.refine_partition.specs.Index.{IsImportIndex};
 ghost use Rattle.refine_partition.specs.Planned.{AreNumbered, IsPlanned};
 
-use crate::arrivals::list_arrivals;
+use crate::arrivals::{Arrivals, list_arrivals};
 use crate::class_names::ClassNames;
 use crate::classes::{divide_classes, widened};
 use crate::graph_view::GraphView;
 use crate::imports::Import;
-use crate::ordering::lists_for_acts;
 use crate::renumbering::{Renumbering, renumbered};
 use crate::touched::{list_touched, queue_of};
 use base_kit::NoMemory;
@@ -39,24 +38,20 @@ pub fn planned(
     requires known { taken < length blocks.now }
     ensures { IfOk result (λ p. IsPlanned graph.now taken numbers.now (length blocks.now) p.renumbering.numbers.items p.renumbering.origins.items p.touched.items) }
 {
-    let _known = graph.count();
     let members = &blocks[taken as usize];
-    let mut arrivals = Vec::new(alloc);
-    let mut by_act = lists_for_acts(alloc)?;
-    list_arrivals(
-        &mut arrivals,
-        &mut by_act,
-        graph,
-        imports,
-        numbers,
-        members,
-        taken,
-    )?;
+    let mut arrivals = Arrivals::new(alloc, graph.count())?;
+    list_arrivals(&mut arrivals, graph, imports, numbers, members, taken)?;
     let count = blocks.len() as u32;
     let mut classes = widened(alloc, numbers)?;
     let mut reached = Vec::new(alloc);
     let mut names = ClassNames::new(alloc);
-    let class_count = divide_classes(&mut classes, &mut reached, &mut names, &arrivals, count)?;
+    let class_count = divide_classes(
+        &mut classes,
+        &mut reached,
+        &mut names,
+        &arrivals.list,
+        count,
+    )?;
     let mut touched = Vec::new(alloc);
     list_touched(&mut touched, numbers, &reached)?;
     let queue = queue_of(alloc, numbers, blocks, &touched)?;

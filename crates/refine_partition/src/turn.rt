@@ -7,7 +7,7 @@ ghost use Rattle.refine_partition.specs.Loose.{AreListed, AreParted, AreSettled,
 ghost use Rattle.refine_partition.specs.Members.{AreBlockMembers};
 ghost use Rattle.refine_partition.specs.Splits.{IsStart};
 
-use crate::arrivals::list_arrivals;
+use crate::arrivals::{Arrivals, list_arrivals};
 use crate::blocks::blocks_of;
 use crate::class_names::ClassNames;
 use crate::classes::{divide_classes, widened};
@@ -16,7 +16,6 @@ use crate::graph_view::GraphView;
 use crate::imports::Import;
 use crate::moves::{Pieces, move_reached, settle};
 use crate::numbering::numbers_of;
-use crate::ordering::lists_for_acts;
 use crate::touched::list_touched;
 use base_kit::{NoMemory, Steps};
 use std::alloc::Global;
@@ -34,24 +33,32 @@ pub struct LooseBlocks {
 /// Lists that each turn fills anew, in the memory of the turn before.
 #[derive(Drop)]
 pub struct Workspace {
-    arrivals: Vec<Import>,
-    by_act: Vec<Vec<Import>>,
+    arrivals: Arrivals,
     reached: Vec<u32>,
     touched: Vec<u32>,
     names: ClassNames<usize>,
-    pub pieces: Pieces,
+    pieces: Pieces,
 }
 
 impl Workspace {
-    pub fn new(alloc: Global) -> Result<Self, NoMemory> {
+    /// Empty lists, for so many routers.
+    pub fn new(alloc: Global, count: u32) -> Result<Self, NoMemory>
+        ensures { IfOk result (λ work. length work.arrivals.places.items ≡ count) }
+    {
         Ok(Workspace {
-            arrivals: Vec::new(alloc),
-            by_act: lists_for_acts(alloc)?,
+            arrivals: Arrivals::new(alloc, count)?,
             reached: Vec::new(alloc),
             touched: Vec::new(alloc),
             names: ClassNames::new(alloc),
             pieces: Pieces::new(alloc),
         })
+    }
+
+    /// For each new piece the block that it comes from.
+    pub fn origins(&self) -> &[u32]
+        ensures { result.now ≡ self.now.pieces.origins.items }
+    {
+        &self.pieces.origins
     }
 }
 
@@ -101,7 +108,9 @@ pub fn turn<L: Ledger>(
     requires one_list_each { length imports.now ≡ graph.now.count }
     requires index { IsImportIndex graph.now.edges imports.now }
     requires known { taken < length blocks.old.lists.items }
+    requires one_place_each { length work.old.arrivals.places.items ≡ graph.now.count }
     ensures tick { turns.new ≡ turns.old + 1 }
+    ensures places { length work.new.arrivals.places.items ≡ length work.old.arrivals.places.items }
     ensures settled { OnOk result (AreSettled blocks.new.numbers.items blocks.new.classes.items blocks.new.lists.items) }
     ensures split { OnOk result (IsDividedAsSplit graph.now taken blocks.old.numbers.items blocks.new.numbers.items (length blocks.old.lists.items) (length blocks.new.lists.items)) }
     ensures parted { OnOk result (AreParted graph.now taken blocks.old.numbers.items blocks.new.numbers.items (length blocks.old.lists.items) (length blocks.new.lists.items) work.new.pieces.origins.items) }
@@ -113,7 +122,6 @@ pub fn turn<L: Ledger>(
     let members = &blocks.lists[taken as usize];
     list_arrivals(
         &mut work.arrivals,
-        &mut work.by_act,
         graph,
         imports,
         &blocks.numbers,
@@ -124,7 +132,7 @@ pub fn turn<L: Ledger>(
         &mut blocks.classes,
         &mut work.reached,
         &mut work.names,
-        &work.arrivals,
+        &work.arrivals.list,
         count,
     )?;
     list_touched(&mut work.touched, &blocks.numbers, &work.reached)?;

@@ -30,7 +30,8 @@ loop-mover-preserved c =
             so_far = rw (take_more c.args.movers.now c.loop-mover.mover-index none c.loop-mover-test.true, w.classes-is, w.names-is, w.next-is)
                 (separating_more _ _ _ mover _ _ _ _ _ _ _ c.loop-mover.invariant.so_far inside' class w.if-class-fresh.true w.in_ok-name.ensures.named
                 w.in_ok-name.ensures.others w.in_ok-name.ensures.was (omega arith) (omega arith) (omega arith));
-            reached = rw (w.classes-is, w.reached-is) (reached_more _ _ _ _ mover.importer _ _ c.loop-mover.invariant.reached inside' class high w.in_ok-note.ensures);
+            reached = rw (w.classes-is, w.reached-is) (reached_more _ _ _ _ mover.importer _ _ c.loop-mover.invariant.reached inside' class high
+                w.in_ok-note.ensures);
             last = rw (w.names-is, w.last-is) w.in_ok-name.ensures.named;
           }
       | else-class-fresh w ↦
@@ -43,4 +44,5 @@ loop-mover-preserved c =
     ]
 
 pub returns-clause-separated : goal.returns-clause-separated
-returns-clause-separated c = rw (take_all c.loop-mover.mover-index c.args.movers.now c.loop-mover-test.false) at (separated _ _ _ _ _ _ c.loop-mover.invariant.so_far)
+returns-clause-separated c = rw (take_all c.loop-mover.mover-index c.args.movers.now c.loop-mover-test.false) at
+    (separated _ _ _ _ _ _ c.loop-mover.invariant.so_far)

@@ -20,6 +20,7 @@ loop-block-init g c =
       size = all.size;
       marked = marked_all _ _ _ all;
       splits = (0, omega arith, once_start _ _ _ _ start all.all);
+      places = c.in_ok-work.ensures ∙ c.count-count.ensures;
       bound = omega arith;
     }
 
@@ -40,7 +41,7 @@ loop-block-preserved g c =
     let divided = c.in_ok-turn.ensures.parted in
     let added = c.in_ok-add_pieces.ensures in
     let marks : length (slice_set c.loop-block.waits.items c.in-Some.block false) ≡ length c.loop-block.blocks.lists.items = length-set _ _ _ ∙ size in
-    let waiting = rw (marks, c.deref-in-Some.ensures.value) at added.waiting in
+    let waiting = rw (marks, c.origins.ensures) at added.waiting in
     let refining = refining_turn _ _ _ _ _ _ _ _ _ _ before.refining (taken_or_left _ _ _ popped) known.0 divided waiting in
     let longer = ap length popped ∙ length_push _ _ in
     let few = waiting.few in
@@ -61,6 +62,7 @@ loop-block-preserved g c =
         once_more _ _ _ _ _ _ _ _ _ _ _ once popped before.marked.once before.refining.known before.refining.total
             before.settled.used c.in_ok-turn.ensures.settled.used c.in_ok-turn.ensures.split divided waiting,
       );
+      places = c.in_ok-turn.ensures.places ∙ before.places;
       bound = omega arith;
     }
 

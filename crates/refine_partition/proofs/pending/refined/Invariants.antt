@@ -10,6 +10,7 @@ invariant-loop-block g l = record {
   size : length l.waits.items ≡ length l.blocks.lists.items;
   marked : AreMarked l.queue.items l.waits.items;
   splits : (splits : ℕ) × (l.turns ≡ l.initial.turns + splits) × AreTakenOnce l.graph splits l.blocks.numbers.items (length l.blocks.lists.items) l.queue.items;
+  places : length l.work.arrivals.places.items ≡ l.graph.count;
   bound : l.turns + 2 * (l.graph.count - length l.blocks.lists.items) + length l.queue.items ≤ l.initial.turns + 2 * l.graph.count;
 }
 
