@@ -11,6 +11,7 @@ mod by_group;
 pub mod laws;
 mod links;
 mod qlink;
+mod run_ends;
 mod runs;
 mod steps;
 

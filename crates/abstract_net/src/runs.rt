@@ -1,13 +1,14 @@
 //! Steps between the same two groups, put together as their links.
 
-ghost use Rattle.std.specs.Prelude.{◌≡◌, ℕ, ◌<◌, ◌≤◌, ◌++◌, [], ◌∷◌, List, true, false, IfOk, IfSome, OnOk, length, option_map, slice_get, slice_index_or, nat_eq};
+ghost use Rattle.std.specs.Prelude.{◌≡◌, ◌++◌, [], ◌∷◌, List, IfOk, IfSome, OnOk, option_map, slice_get, nat_eq};
 ghost use Rattle.std.specs.HashSet as set;
 ghost use Rattle.std.specs.List.{cons_option};
 ghost use Rattle.abstract_net.specs.Links.{joined_sides};
-ghost use Rattle.abstract_net.specs.GroupSteps.{link_of, sorted_by, first_new, edges_into, links_of_run, links_of_steps, same_ends};
+ghost use Rattle.abstract_net.specs.GroupSteps.{link_of, sorted_by, first_new, edges_into, links_of_run, links_of_steps};
 ghost use Rattle.abstract_net.specs.Least.{is_of_other_act, lower_of};
 
 use crate::qlink::QLink;
+use crate::run_ends::{Common, run_end};
 use crate::steps::Step;
 use base_kit::{List, NoMemory};
 use std::alloc::Global;
@@ -158,27 +159,6 @@ fn push_run(alloc: Global, links: &mut List<QLink>, run: &[Step]) -> Result<(), 
     push_joined(links, first.low, first.high, &to_low, &to_high)
 }
 
-fn same_ends(a: &Step, b: &Step) -> bool
-    ensures { result ≡ same_ends a.now b.now }
-{
-    a.low == b.low && a.high == b.high
-}
-
-// The end of the run of steps between the groups of the one at `start`.
-fn run_end(steps: &[Step], start: usize) -> usize
-    requires { start < length steps.now }
-    ensures more { start < result }
-    ensures within { result ≤ length steps.now }
-    ensures same { (i : ℕ) (d : Step) → start ≤ i → i < result → same_ends (slice_index_or steps.now start d) (slice_index_or steps.now i d) ≡ true }
-    ensures after { (d : Step) → result < length steps.now → same_ends (slice_index_or steps.now start d) (slice_index_or steps.now result d) ≡ false }
-{
-    let mut end = start + 1;
-    while end < steps.len() && same_ends(&steps[start], &steps[end]) {
-        end += 1;
-    }
-    end
-}
-
 /// The links of each run of steps between the same two groups.
 pub fn links_of(alloc: Global, steps: &[Step]) -> Result<List<QLink>, NoMemory>
     ensures { IfOk result (λ links. links ≡ links_of_steps steps.now) }
@@ -186,7 +166,7 @@ pub fn links_of(alloc: Global, steps: &[Step]) -> Result<List<QLink>, NoMemory>
     let mut links = List::new(alloc);
     let mut start = 0;
     while start < steps.len() {
-        let end = run_end(steps, start);
+        let end = run_end(Common::BothGroups, steps, start);
         push_run(alloc, &mut links, &steps[start..end])?;
         start = end;
     }
