@@ -11,6 +11,7 @@ pub mod Places
 pub mod Rules
 pub mod Same
 pub mod Starts
+pub mod StretchFacts
 pub mod Traits
 pub mod Turns
 pub mod Words

@@ -3,20 +3,17 @@
 ghost use Rattle.std.specs.Prelude.{◌≡◌, ◌≤◌, [], IfOk, OnOk, map, length};
 ghost use Rattle.std.specs.BTreeMap.{IsOrdered};
 ghost use Rattle.dest_classes.specs.Lists.{lists_asked};
-ghost use Rattle.dest_classes.specs.Cells.{word_of, cell_key, started, asked, entries_of, AreAllTold, AreMembers};
+ghost use Rattle.dest_classes.specs.Cells.{cell_key, started, asked, entries_of, AreAllTold, AreMembers};
 ghost use Rattle.dest_classes.specs.Routes.{prefix_cmp};
 
 use crate::lists::lists_asked;
 use crate::routes::Originators;
+use crate::stretches::{AT_ONCE, first_stretches, word_by_stretch};
 use base_kit::{List, NoMemory, Prefix};
 use cfg_ast::{Network, Origin, PrefixList};
 use indexmap::IndexSet;
 use number_hashing::{NumberDigest, NumberHashing};
-use prefix_lists::permits;
 use std::alloc::Global;
-
-// So many lists are asked at once, since their answers are the bits of a word.
-const AT_ONCE: usize = 64;
 
 /// A prefix with its originators. Two members are of one cell where the lists that were asked so far
 /// answer both alike.
@@ -27,16 +24,15 @@ pub struct Member {
     pub cell: usize,
 }
 
-// The answers of the lists to a prefix, as the bits of a number.
-fn word_of(lists: &[&PrefixList], prefix: Prefix) -> u64
-    requires { length lists.now ≤ AT_ONCE }
-    ensures { result ≡ word_of (map (λ list. list.now) lists.now) prefix }
-{
-    let mut word = 0;
-    for list in lists {
-        word = 2 * word + u64::from(permits(list, prefix));
+// A stretch reaches over so many members, of all lengths.
+const IN_STRETCH: usize = 1024;
+
+// The first address behind the members of a stretch from that place on, or the last one of all.
+fn last_from(members: &[Member], place: usize) -> u32 {
+    match members.get(place.saturating_add(IN_STRETCH)) {
+        Some(member) => member.prefix.addr(),
+        None => u32::MAX,
     }
-    word
 }
 
 // What the members are told apart by once these lists are asked too.
@@ -49,8 +45,11 @@ fn keys_of(
     ensures { IfOk result (λ v. v.items ≡ map (cell_key (map (λ list. list.now) lists.now)) members.now) }
 {
     let mut keys = Vec::with_capacity(alloc, members.len())?;
-    for member in members {
-        keys.push((member.cell, word_of(lists, member.prefix)))?;
+    let mut stretches = first_stretches(alloc, lists)?;
+    for (place, member) in members.iter().enumerate() {
+        let last = last_from(members, place);
+        let word = word_by_stretch(alloc, lists, stretches.as_mut_slice(), member.prefix, last)?;
+        keys.push((member.cell, word))?;
     }
     Ok(keys)
 }

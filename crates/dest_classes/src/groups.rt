@@ -38,10 +38,14 @@ fn add(
 }
 
 fn add_member(numbers: &mut NumberDigest, member: &Member) {
-    numbers.add(&member.cell);
-    numbers.add(&member.origins.len());
+    numbers.add_number(member.cell as u64);
+    numbers.add_number(member.origins.len() as u64);
     for origin in member.origins.as_slice() {
-        numbers.add(origin);
+        let cost = match origin.cost {
+            Some(cost) => u32::from(cost) + 1,
+            None => 0,
+        };
+        numbers.add_pair(origin.router, cost);
     }
 }
 

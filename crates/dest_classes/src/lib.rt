@@ -14,6 +14,7 @@ mod laws;
 mod lists;
 mod network_classes;
 mod routes;
+mod stretches;
 
 pub use cfg_ast::{DestClass, Origin};
 pub use laws::{class_ascends, class_of_each_member, same_class_is_decided};

@@ -1,6 +1,6 @@
 use Rattle.std.proofs.Common.{◌≡◌, ◌<◌, ◌^◌, map, drop}
 use Rattle.dest_classes.specs.Cells.{word_from, word_of}
-use Rattle.dest_classes.proofs.cells.word_of.Given as goal
+use Rattle.dest_classes.proofs.stretches.word_of.Given as goal
 
 abbrev pub invariant-loop-list : goal.invariant-loop-list
 invariant-loop-list l = record {
