@@ -52,7 +52,8 @@ pub in_maps_add_nothing : (network : Network) (router : Router) (line : Neighbor
 unfolding prepend_in_lines
 in_maps_add_nothing network router line none in_network in_router p =
     let in_router_none = contained_empty prepending_maps_in_of network.routers router none in_network in
-    let in_line_none = contained_empty (λ (q : Neighbor). line_naming (has_prepending_map router) q.map_in) (neighbors_of router) line in_router_none in_router in
+    let in_line_none = contained_empty (λ (q : Neighbor). line_naming (has_prepending_map router) q.map_in)
+    (neighbors_of router) line in_router_none in_router in
     All-from_recursion IsUnadded (in_map p router line).entries
     (plain_holds IsUnadded router (name_of line.map_in) (name_of line.list_in) p true refl
     (named_adds_nothing router (own_preference router true) line.map_in in_line_none))

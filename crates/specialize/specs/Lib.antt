@@ -1,3 +1,4 @@
+pub mod Answers
 pub mod OnePrefix
 pub mod Places
 pub mod Printable

@@ -11,6 +11,7 @@
 //! communities they name.
 #![tactic(auto)]
 
+mod answers;
 pub mod laws;
 mod maps;
 mod places;

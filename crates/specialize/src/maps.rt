@@ -1,20 +1,22 @@
 //! A route map for one prefix.
 
-ghost use Rattle.std.specs.Prelude.{◌≡◌, ℕ, [], ◌∷◌, IfOk, option_copied, min, filter_map, if◌then◌else◌};
-ghost use Rattle.std.specs.List.{list_any};
+ghost use Rattle.std.specs.Prelude.{◌≡◌, ℕ, [], ◌∷◌, IfOk, OnOk, option_copied, min, filter_map, if◌then◌else◌};
 ghost use Rattle.std.specs.Option.{option_or};
 ghost use Rattle.cfg_ast.specs.meaning.Policy.{community_list_named, prefixes_permitted_by, prefixes_match, deletion_list, prepend_count, passes_list};
 ghost use Rattle.route_maps.specs.Printable.{IsPrintable};
 ghost use Rattle.specialize.specs.OnePrefix.{MapPrependsFew, own_preference, lists_named, plain_entry, whole_entry, plain_entries, entries_for, plain_of, KeepsVerdict};
+ghost use Rattle.specialize.specs.Answers.{AreAnswers};
 ghost use Rattle.specialize.specs.Places.{ArePlacesOfRouter};
 ghost use Rattle.specialize.specs.Printable.{HasPrintableMaps};
 
+use crate::answers::{KnownAnswers, any_list_permits};
 use crate::places::{Places, find_community_list, find_prefix_list, places_of, route_map_at};
 use base_kit::{List, NoMemory, Prefix, Text};
 use cfg_ast::{CommunityList, MapEntry, NameLine, Named, Prepend, Router};
 use prefix_lists::permits;
 use route_maps::{Plain, PlainEntry, change_copy, list_copy};
 use std::alloc::Global;
+use std::collections::HashMap;
 
 fn list_permits(router: &Router, places: &Places, p: Prefix, name: &Text) -> bool
     requires { ArePlacesOfRouter router.now places.now }
@@ -26,22 +28,21 @@ fn list_permits(router: &Router, places: &Places, p: Prefix, name: &Text) -> boo
     }
 }
 
-fn any_list_permits(router: &Router, places: &Places, p: Prefix, names: &[Text]) -> bool
-    requires { ArePlacesOfRouter router.now places.now }
-    ensures { result ≡ list_any (prefixes_permitted_by router.now p) names.now }
-{
-    names
-        .iter()
-        .any(|name| list_permits(router, places, p, name))
-}
-
-fn prefixes_match(router: &Router, places: &Places, p: Prefix, prefixes: &Option<NameLine>) -> bool
-    requires { ArePlacesOfRouter router.now places.now }
-    ensures { result ≡ prefixes_match router.now p prefixes.now }
+fn prefixes_match(
+    known: &mut KnownAnswers,
+    router: &Router,
+    places: &Places,
+    p: Prefix,
+    prefixes: &Option<NameLine>,
+) -> Result<bool, NoMemory>
+    requires places { ArePlacesOfRouter router.now places.now }
+    requires known { AreAnswers router.now p known.old }
+    ensures answer { IfOk result (λ answer. answer ≡ prefixes_match router.now p prefixes.now) }
+    ensures known { OnOk result (AreAnswers router.now p known.new) }
 {
     match prefixes {
-        Some(line) => any_list_permits(router, places, p, line.names.as_slice()),
-        None => true,
+        Some(line) => any_list_permits(known, router, places, p, line.names.as_slice()),
+        None => Ok(true),
     }
 }
 
@@ -159,9 +160,11 @@ fn plain_entries(
     requires { ArePlacesOfRouter router.now places.now }
     ensures { IfOk result (λ plain. plain ≡ plain_entries router.now own p entries.now) }
 {
+    let mut known = HashMap::new(alloc);
     let mut plain = List::new(alloc);
     for entry in entries {
-        if prefixes_match(router, places, p, &entry.prefixes) {
+        let matches = prefixes_match(&mut known, router, places, p, &entry.prefixes)?;
+        if matches {
             plain.push(plain_entry(alloc, router, places, own, entry)?)?;
         }
     }
