@@ -63,11 +63,42 @@ fn importers(
     Ok(found)
 }
 
+// How many routers and edges there are to go through, up to a number.
+fn weight(edges: &[Vec<Placed>], routers: &[u32], most: usize) -> usize {
+    let mut found = 0usize;
+    for router in routers {
+        if let Some(list) = edges.get(*router as usize) {
+            found = found.saturating_add(list.len()).saturating_add(1);
+        }
+        if found >= most {
+            return most;
+        }
+    }
+    found
+}
+
+// Whether to go through the edges into `by` takes less than through those out of the block, or as much where
+// `by` has no more routers. What has fewer routers is counted first, and limits how much of the other is.
+fn is_lighter(
+    incoming: &[Vec<Placed>],
+    by: &[u32],
+    outgoing: &[Vec<Placed>],
+    block: &[u32],
+) -> bool {
+    if by.len() <= block.len() {
+        let into = weight(incoming, by, usize::MAX);
+        return weight(outgoing, block, into) >= into;
+    }
+    let out = weight(outgoing, block, usize::MAX);
+    weight(incoming, by, out) < out
+}
+
 // Routers among which all movers are: the importers over the edges into the other block, or the divided
-// block, whichever is shorter.
+// block, whichever is less to go through.
 fn candidates(
     alloc: Global,
     graph: &ActGraph,
+    outgoing: &[Vec<Placed>],
     incoming: &[Vec<Placed>],
     numbers: &[usize],
     lists: &[Vec<u32>],
@@ -83,7 +114,7 @@ fn candidates(
 {
     let block = &lists[split.block as usize];
     let by = &lists[split.by as usize];
-    if by.len() <= block.len() {
+    if is_lighter(incoming, by, outgoing, block) {
         let found = importers(alloc, incoming, by, act)?;
         return Ok(found);
     }
@@ -110,7 +141,7 @@ pub(crate) fn movers(
     requires by { split.by < length lists.now }
     ensures { IfOk result (λ v. AreMovers graph.now.edges numbers.now split.block split.by act v.items) }
 {
-    let mut movers = candidates(alloc, graph, incoming, numbers, lists, split, act)?;
+    let mut movers = candidates(alloc, graph, outgoing, incoming, numbers, lists, split, act)?;
     movers.retain(|router| is_mover(graph, outgoing, numbers, split, act, *router));
     movers.sort()?;
     movers.dedup();
