@@ -13,6 +13,7 @@ mod ClassPrefixes
 mod CostPlaces
 mod DirectionsOf
 mod EdgeSteps
+mod EdgeNumbers
 mod FirstUse
 mod FixedMaps
 mod HopEdges
@@ -36,6 +37,8 @@ mod OspfChecked
 mod OspfExists
 mod OspfRoutes
 mod OwnNumbers
+mod PlacedEdges
+mod Placing
 mod ProblemExists
 mod Restarted
 mod Samples

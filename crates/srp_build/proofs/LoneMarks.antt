@@ -108,7 +108,8 @@ module _ (shown : Shown) (acts : List BgpAct) (edges : List Edge) (edge : Edge) 
   }
 
   -- the first act once more
-  mark_again : (mark : Mark) → IsMark shown acts edges edge.importer mark → mark.first ≡ Some edge.act → IsMark shown acts (edges ++ edge ∷ []) edge.importer mark
+  mark_again : (mark : Mark) → IsMark shown acts edges edge.importer mark → mark.first ≡ Some edge.act →
+      IsMark shown acts (edges ++ edge ∷ []) edge.importer mark
   mark_again mark is some_first = record {
     none = λ e act has. absurd cc;
     some = λ k e. more_edge edge.importer k (is.some k e);

@@ -79,4 +79,5 @@ map_nil f (x ∷ xs) e = cc
 -- routers with processes of one number are one
 pub one_router : (n : Network) → shared_as_lines n ≡ [] → (u v : ℕ) (p q : BgpProcess) → HasAt n.routers u p → HasAt n.routers v q → p.number ≡ q.number → u ≡ v
 unfolding shared_as_lines
-one_router n none u v p q a b same = one_place n.routers [] (map_nil process_line (repeats same_as_number (filter_map (λ (r : Router). r.bgp) n.routers)) none) u v p q a b same
+one_router n none u v p q a b same = one_place n.routers [] (map_nil process_line
+    (repeats same_as_number (filter_map (λ (r : Router). r.bgp) n.routers)) none) u v p q a b same

@@ -1,31 +1,48 @@
 -- The different imports of sessions, each as an act with its function in diagrams.
-use Rattle.std.specs.Prelude.{◌≡◌, ◌⊎◌, ◌+◌, ◌%◌, ℕ, List, [], ◌∷◌, ◌++◌, length, Option, Some, None, Contains, slice_get}
-use Rattle.buckets.specs.Buckets.{Index, bucket}
+use Rattle.std.specs.Prelude.{◌≡◌, ◌⊎◌, ℕ, List, [], ◌∷◌, ◌++◌, length, Option, Some, None, Contains, slice_get, flat_map, unwrap_or, if◌then◌else◌}
+use Rattle.std.specs.BTreeMap.{BTreeMap, get}
+use Rattle.std.specs.Cmp.Lexicographic.{slice_cmp}
+use Rattle.std.specs.Global.{Vec}
+use Rattle.std.specs.Ordering.{nat_cmp, is_eq}
+use Rattle.std.specs.declared.cmp.Ordering.{Ordering}
+use Rattle.base_kit.specs.declared.ids.Community.{Community}
 use Rattle.dd_core.specs.Sets.{Shown}
 use Rattle.policy_dd.specs.declared.edge.EdgeFn.{EdgeFn}
-use Rattle.policy_dd.specs.Edge.{IsEdgeFn, by_number}
+use Rattle.policy_dd.specs.Edge.{IsEdgeFn}
 use Rattle.policy_dd.specs.Imports.{AreOneImport, AcceptsSome, AcceptsNone}
 use Rattle.route_maps.specs.declared.plain.Imported.{Imported}
 use Rattle.srp_build.specs.declared.acts.BgpAct.{BgpAct}
 use Rattle.srp_build.specs.declared.hops.Hop.{Hop}
 use Rattle.srp_build.specs.declared.imports.ImportByMaps.{ImportByMaps}
 
--- the last 32 bits of a number
-abbrev pub low_half : ℕ → ℕ
-low_half number = number % 4294967296
+-- a case in numbers: its key, and the place of its node
+abbrev pub case_numbers : ℕ × ℕ → List ℕ
+case_numbers case = case.0 ∷ case.1 ∷ []
 
--- the first key of a table, 0 where it has none
-abbrev pub first_key : List (ℕ × ℕ) → ℕ
-first_key [] = 0
-first_key (case ∷ cases) = case.0
+-- the same of the case of a community
+abbrev pub community_numbers : Community × ℕ → List ℕ
+community_numbers case = case.0.0 ∷ case.1 ∷ []
 
--- the last 32 bits of the sum of a place and a number
-abbrev pub mixed : ℕ → ℕ → ℕ
-mixed place number = low_half (low_half place + number)
+-- what functions are found by: their numbers
+abbrev pub FunctionKey : Type 0
+FunctionKey = Vec ℕ
 
--- what functions are found by: the places of both nodes, one with the first preference, the other with the first community
-abbrev pub function_key : EdgeFn → ℕ × ℕ
-function_key function = (mixed function.permit (first_key function.lps), mixed function.rest (first_key (by_number function.outs)))
+-- all of a function, in numbers
+abbrev pub function_key : EdgeFn → List ℕ
+function_key function = function.permit ∷ function.rest ∷ length function.lps ∷ length function.adds
+    ∷ (flat_map case_numbers function.lps ++ flat_map case_numbers function.adds ++ flat_map community_numbers function.outs)
+
+-- how keys are ordered
+abbrev pub function_order : FunctionKey → FunctionKey → Ordering
+function_order a b = slice_cmp nat_cmp a.items b.items
+
+-- the numbers under a key
+abbrev pub numbers_under : BTreeMap FunctionKey (List ℕ) → FunctionKey → List ℕ
+numbers_under index key = unwrap_or (get function_order index key) []
+
+-- what stands under a key after a number was put last under one
+abbrev pub with_number_noted : FunctionKey → ℕ → FunctionKey → Option (List ℕ) → Option (List ℕ)
+with_number_noted key number q known = if is_eq (function_order key q) then Some (unwrap_or known [] ++ number ∷ []) else known
 
 -- the functions import alike
 pub record AreAlike (shown : Shown) (f g : EdgeFn) : Type 0 where
@@ -47,8 +64,9 @@ AreUnlike shown acts numbers function = (number : ℕ) (act : BgpAct) → Contai
     AreTwoImports shown function act.function
 
 -- each act is found by its function
-pub record AreFoundByFunction (index : Index ℕ) (acts : List BgpAct) : Type 0 where
-  pub each : (number : ℕ) (act : BgpAct) → slice_get acts number ≡ Some act → Contains (bucket index (function_key act.function)) number
+pub record AreFoundByFunction (index : BTreeMap FunctionKey (List ℕ)) (acts : List BgpAct) : Type 0 where
+  pub each : (number : ℕ) (act : BgpAct) (key : FunctionKey) → slice_get acts number ≡ Some act → key.items ≡ function_key act.function →
+      Contains (numbers_under index key) number
 
 -- an act came last, that of this import, which is first in this direction
 pub record IsNewAct (old new : List BgpAct) (hop : Hop) (import : ImportByMaps) (number : ℕ) : Type 0 where

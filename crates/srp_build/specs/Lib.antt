@@ -18,6 +18,7 @@ pub mod ListPlaces
 pub mod Lone
 pub mod MetImports
 pub mod Ospf
+pub mod PlacedEdges
 pub mod Plains
 pub mod Problem
 pub mod Starts

@@ -1,26 +1,25 @@
 //! Acts of sessions, found by what they import.
 
-ghost use Rattle.std.specs.Prelude.{◌≡◌, ◌<◌, ◌^◌, [], ◌∷◌, ◌++◌, true, false, None, Some, IfOk, OnOk, IfSome, Contains, length, slice_get};
-ghost use Rattle.policy_dd.specs.Edge.{by_number};
-ghost use Rattle.srp_build.specs.BgpActs.{first_key, mixed, function_key, AreTwoImports, IsLike, AreUnlike, AreFoundByFunction, IsActOfFunction, IsNumberFor, low_half};
+ghost use Rattle.std.specs.Prelude.{◌≡◌, ◌<◌, ◌^◌, [], ◌∷◌, ◌++◌, true, false, None, Some, IfOk, OnOk, IfSome, Contains, length, slice_get, flat_map};
+ghost use Rattle.std.specs.BTreeMap.{get};
+ghost use Rattle.srp_build.specs.BgpActs.{case_numbers, community_numbers, function_key, function_order, numbers_under, with_number_noted, AreTwoImports, IsLike, AreUnlike, AreFoundByFunction, IsActOfFunction, IsNumberFor};
+ghost use Rattle.srp_build.specs.BgpActs.{FunctionKey as Key};
 
 use crate::hops::Hop;
 use crate::imports::ImportByMaps;
-use base_kit::{Community, NoMemory};
-use buckets::{Index, items_at, push_at};
+use base_kit::{Community, List, NoMemory};
 use dd_core::{NodeId, Store};
-use number_hashing::NumberHashing;
 use policy_dd::laws::one_form;
 use policy_dd::{EdgeFn, accepts_some, same};
 use std::alloc::Global;
-use std::collections::HashMap;
+use std::collections::BTreeMap;
 
-// The last 32 bits of a number.
-fn low_half(number: usize) -> u32
-    ensures { result ≡ low_half number }
-{
-    (number % 4_294_967_296) as u32
-}
+/// What an act is found by: all of its function, in numbers, whatever preferences and communities a text
+/// chooses.
+pub type FunctionKey = Vec<usize>;
+
+/// The numbers of the acts with each key, in order.
+pub type ActsByKey = BTreeMap<FunctionKey, List<u32>>;
 
 /// An act of sessions: the first direction that has it, the import there, and the function that all
 /// directions with this act have.
@@ -31,12 +30,11 @@ pub struct BgpAct {
     pub function: EdgeFn,
 }
 
-/// Acts of sessions, no two of which import alike. An act is found by two nodes, the first preference and
-/// the first community of its function.
+/// Acts of sessions, each of which is found by its function.
 #[derive(Drop)]
 pub struct Acts {
     pub acts: Vec<BgpAct>,
-    pub by_function: Index<u32>,
+    pub by_function: ActsByKey,
 }
 
 // Whether the act with the number has a function like this one.
@@ -63,44 +61,72 @@ fn like_among(store: &Store, acts: &[BgpAct], numbers: &[u32], function: &EdgeFn
     None
 }
 
-fn mixed(place: usize, number: u32) -> u32
-    ensures { result ≡ mixed place number }
+fn push_case(numbers: &mut List<usize>, key: usize, node: NodeId) -> Result<(), NoMemory>
+    ensures { OnOk result (numbers.new ≡ numbers.old ++ case_numbers (key, node)) }
 {
-    low_half(low_half(place) as usize + number as usize)
+    numbers.push(key)?;
+    numbers.push(node.place())
 }
 
-fn first_preference(lps: &[(u32, NodeId)]) -> u32
-    ensures { result ≡ first_key lps.now }
+fn push_preferences(numbers: &mut List<usize>, lps: &[(u32, NodeId)]) -> Result<(), NoMemory>
+    ensures { OnOk result (numbers.new ≡ numbers.old ++ flat_map case_numbers lps.now) }
 {
-    match lps {
-        [] => 0,
-        [case, ..] => case.0,
+    for case in lps {
+        push_case(numbers, case.0 as usize, case.1)?;
+    }
+    Ok(())
+}
+
+fn push_counts(numbers: &mut List<usize>, adds: &[(u8, NodeId)]) -> Result<(), NoMemory>
+    ensures { OnOk result (numbers.new ≡ numbers.old ++ flat_map case_numbers adds.now) }
+{
+    for case in adds {
+        push_case(numbers, case.0 as usize, case.1)?;
+    }
+    Ok(())
+}
+
+fn push_communities(numbers: &mut List<usize>, outs: &[(Community, NodeId)]) -> Result<(), NoMemory>
+    ensures { OnOk result (numbers.new ≡ numbers.old ++ flat_map community_numbers outs.now) }
+{
+    for case in outs {
+        push_case(numbers, case.0.0 as usize, case.1)?;
+    }
+    Ok(())
+}
+
+// The lengths of two tables stand before the cases, so the numbers tell where each table ends.
+fn key_of(alloc: Global, function: &EdgeFn) -> Result<FunctionKey, NoMemory>
+    ensures { IfOk result (λ key. key.items ≡ function_key function.now) }
+{
+    let mut numbers = List::new(alloc);
+    numbers.push(function.permit.place())?;
+    numbers.push(function.rest.place())?;
+    numbers.push(function.lps.len())?;
+    numbers.push(function.adds.len())?;
+    push_preferences(&mut numbers, function.lps.as_slice())?;
+    push_counts(&mut numbers, function.adds.as_slice())?;
+    push_communities(&mut numbers, function.outs.as_slice())?;
+    Ok(numbers.into_vec())
+}
+
+// The numbers of the acts with this key.
+fn numbers_under<'a>(index: &'a ActsByKey, key: &FunctionKey) -> &'a [u32]
+    ensures { result.now ≡ numbers_under index.now key.now }
+{
+    match index.get(key) {
+        Some(numbers) => numbers.as_slice(),
+        None => &[],
     }
 }
 
-fn first_community(outs: &[(Community, NodeId)]) -> u32
-    ensures { result ≡ first_key (by_number outs.now) }
+// Puts the number of an act last under its key.
+fn note(alloc: Global, index: &mut ActsByKey, key: FunctionKey, number: u32) -> Result<(), NoMemory>
+    ensures { OnOk result ((q : Key) → get function_order index.new q ≡ with_number_noted key number q (get function_order index.old q)) }
 {
-    match outs {
-        [] => 0,
-        [case, ..] => case.0.0,
-    }
-}
-
-// Sessions that differ in their least preference or their least community have different keys, so they are
-// not compared with one another. Those that differ in a later one alone still are.
-fn key_of(function: &EdgeFn) -> (u32, u32)
-    ensures { result ≡ function_key function.now }
-{
-    let permit = mixed(
-        function.permit.place(),
-        first_preference(function.lps.as_slice()),
-    );
-    let rest = mixed(
-        function.rest.place(),
-        first_community(function.outs.as_slice()),
-    );
-    (permit, rest)
+    let numbers = index.entry(key)?.or_insert(List::new(alloc));
+    numbers.push(number)?;
+    Ok(())
 }
 
 fn number_of(place: usize) -> u32
@@ -117,7 +143,7 @@ impl Acts {
     {
         Acts {
             acts: Vec::new(alloc),
-            by_function: HashMap::with_hasher(alloc, NumberHashing::plain()),
+            by_function: BTreeMap::new(alloc),
         }
     }
 
@@ -137,8 +163,8 @@ impl Acts {
     {
         one_form();
         let _known = store.len();
-        let key = key_of(&function);
-        let numbers = items_at(&self.by_function, key);
+        let key = key_of(alloc, &function)?;
+        let numbers = numbers_under(&self.by_function, &key);
         if let Some(number) = like_among(store, &self.acts, numbers, &function) {
             return Ok(number);
         }
@@ -148,7 +174,7 @@ impl Acts {
             import: *import,
             function,
         })?;
-        push_at(alloc, &mut self.by_function, key, number)?;
+        note(alloc, &mut self.by_function, key, number)?;
         Ok(number)
     }
 

@@ -2,14 +2,13 @@
 
 ghost use Rattle.std.specs.Prelude.{◌≡◌, ◌⊎◌, ◌<◌, ◌^◌, ◌++◌, ◌∷◌, [], Some, IfOk, IfSome, OnOk, length, map, slice_get};
 ghost use Rattle.srp_core.specs.declared.route.Act.TheVariants as act;
-ghost use Rattle.srp_build.specs.Costs.{cost_at, cost_of_hop, IsInterfaceAct, HopAdded, NumbersHops};
-ghost use Rattle.srp_build.specs.HopNumbers.{hop_at};
+ghost use Rattle.srp_build.specs.Costs.{cost_at, cost_of_hop, IsInterfaceAct, NumbersHops};
+ghost use Rattle.srp_build.specs.PlacedEdges.{hop_of};
 ghost use Rattle.distinct_values.specs.Distinct.{AreDistinct};
 
-use crate::hop_numbers::hop_at;
 use crate::hops::Hop;
 use base_kit::{Edge, List, NoMemory};
-use cfg_ast::{Link, Router};
+use cfg_ast::Router;
 use indexmap::IndexSet;
 use srp_core::Act;
 use std::alloc::Global;
@@ -111,32 +110,6 @@ fn cost_at(routers: &[Router], router: u32, item: u32) -> u16
     interface.cost().unwrap_or(0)
 }
 
-fn push_edge(
-    routers: &[Router],
-    costs: &mut Costs,
-    edges: &mut List<Edge>,
-    last: Option<InterfaceAct>,
-    hop: &Hop,
-) -> Result<InterfaceAct, NoMemory>
-    requires few { length costs.old < 2 ^ 32 }
-    requires last { IfSome last (IsInterfaceAct routers.now costs.old) }
-    ensures added { OnOk result (HopAdded routers.now costs.old costs.new edges.old edges.new hop.now) }
-    ensures known { IfOk result (IsInterfaceAct routers.now costs.new) }
-{
-    let act = costs.act_of(routers, last, hop)?;
-    edges.push(Edge {
-        importer: hop.importer,
-        exporter: hop.exporter,
-        act,
-        link: hop.link,
-    })?;
-    Ok(InterfaceAct {
-        importer: hop.importer,
-        item: hop.importer_item,
-        act,
-    })
-}
-
 /// Edges, and the costs that their acts number.
 #[derive(Drop)]
 pub struct Numbered {
@@ -144,24 +117,50 @@ pub struct Numbered {
     pub edges: List<Edge>,
 }
 
-/// An edge for each direction with one of these numbers, in order; its act is the place of its cost
-/// among the different costs.
-pub fn number_hops(
+// The direction of an edge in the place of whose act the importer's interface stands.
+fn hop_of(edge: &Edge) -> Hop
+    ensures { result ≡ hop_of edge.now }
+{
+    Hop {
+        importer: edge.importer,
+        exporter: edge.exporter,
+        link: edge.link,
+        importer_item: edge.act,
+        exporter_item: 0,
+    }
+}
+
+/// The edges with acts for importers' interfaces. An act is the place of the interface's cost among the
+/// different costs.
+pub fn number_edges(
     alloc: Global,
     routers: &[Router],
-    links: &[Link],
-    numbers: &[u32],
+    edges: Vec<Edge>,
 ) -> Result<Numbered, NoMemory>
-    requires { length numbers.now < 2 ^ 32 }
-    ensures { IfOk result (λ n. NumbersHops routers.now n.costs (map (hop_at links.now) numbers.now) n.edges) }
+    requires { length edges.items < 2 ^ 32 }
+    ensures { IfOk result (λ n. NumbersHops routers.now n.costs (map hop_of edges.items) n.edges) }
 {
+    let mut edges = edges;
     let mut costs = Costs::new(alloc);
-    let mut edges = List::from_vec(Vec::with_capacity(alloc, numbers.len())?);
     let mut last = None;
-    for number in numbers {
-        let hop = hop_at(links, *number);
-        let known = push_edge(routers, &mut costs, &mut edges, last, &hop)?;
-        last = Some(known);
+    for place in 0..edges.len() {
+        let edge = edges[place];
+        let hop = hop_of(&edge);
+        let act = costs.act_of(routers, last, &hop)?;
+        edges[place] = Edge {
+            importer: edge.importer,
+            exporter: edge.exporter,
+            act,
+            link: edge.link,
+        };
+        last = Some(InterfaceAct {
+            importer: edge.importer,
+            item: edge.act,
+            act,
+        });
     }
-    Ok(Numbered { costs, edges })
+    Ok(Numbered {
+        costs,
+        edges: List::from_vec(edges),
+    })
 }

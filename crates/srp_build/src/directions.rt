@@ -6,8 +6,9 @@ ghost use Rattle.cfg_ast.specs.meaning.Topology.{links_of};
 ghost use Rattle.srp_build.specs.Directions.{AreDirectionsOf};
 ghost use Rattle.srp_build.specs.Problem.{is_bgp};
 
-use crate::costs::{Numbered, number_hops};
-use crate::hop_numbers::{sorted_hops, sorted_numbers};
+use crate::costs::{Numbered, number_edges};
+use crate::hop_numbers::sorted_hops;
+use crate::placed_edges::placed_edges;
 use crate::session_hops::{SessionHops, session_hops};
 use base_kit::{List, NoMemory, Protocol};
 use cfg_ast::Link;
@@ -57,7 +58,7 @@ pub fn directions_of(
         let found = session_hops(alloc, routers, hops)?;
         return Ok(Directions::OfSessions(found));
     }
-    let numbers = sorted_numbers(alloc, routers.len(), links)?;
-    let numbered = number_hops(alloc, routers, links, &numbers)?;
+    let edges = placed_edges(alloc, routers.len(), links)?;
+    let numbered = number_edges(alloc, routers, edges)?;
     Ok(Directions::OfAdjacencies(numbered))
 }

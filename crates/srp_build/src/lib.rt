@@ -25,6 +25,7 @@ pub mod laws;
 mod lines;
 mod lone;
 mod met_imports;
+mod placed_edges;
 mod plains;
 mod policies;
 mod policy_maps;
