@@ -1,4 +1,4 @@
--- A command has one answer to a network, the number of a class and a second file that is told.
+-- A command has one answer to a network, the number of a class and a second file that is known.
 use Rattle.std.specs.Prelude.{◌≡◌, ℕ, List, Option, IsSome}
 use Rattle.cfg_ast.specs.declared.network.Network.{Network}
 use Rattle.answer_kit.specs.Outcome.{Outcome}

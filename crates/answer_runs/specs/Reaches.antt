@@ -1,4 +1,4 @@
--- What the command `reach` tells of a solution.
+-- What the command `reach` reports of a solution.
 use Rattle.std.specs.Prelude.{◌≡◌, ℕ, List, [], ◌++◌, codes, flat_map, Option, slice_index_or}
 use Rattle.cfg_ast.specs.declared.network.Network.{Network}
 use Rattle.cfg_ast.specs.declared.classes.DestClass.{DestClass}
@@ -30,17 +30,17 @@ abbrev pub IsToldOf : Problem → List (Option Route) → Answer → Outcome →
 IsToldOf problem labels Stable o = IsOrderTold problem labels o
 IsToldOf problem labels (Not router why) o = o ≡ not_stable (break_reason problem router why)
 
--- labels of the problem are judged, and their order is told where they are stable
+-- labels of the problem are judged, and their order is reported where they are stable
 pub record IsReach (problem : Problem) (labels : List (Option Route)) (o : Outcome) : Type 0 where
   pub fitting : AreLabels problem labels
   pub answer : Answer
   pub judged : Judges problem labels answer
   pub told : IsToldOf problem labels answer o
 
--- what `reach` is to tell of a class
+-- what `reach` is to report of a class
 abbrev pub IsReachOf : Network → Option (List ℕ) → DestClass → Outcome → Type 0
 IsReachOf = IsOfClassSolution IsReach
 
--- what `reach` is to tell of a network and the number of a class
+-- what `reach` is to report of a network and the number of a class
 abbrev pub IsReachAnswer : Network → ℕ → Option (List ℕ) → Outcome → Type 0
 IsReachAnswer network number second = IsOfClass (class_at (classes_of network) number) number (IsReachOf network second)

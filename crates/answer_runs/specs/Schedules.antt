@@ -1,4 +1,4 @@
--- What the command `run` tells of a schedule.
+-- What the command `run` reports of a schedule.
 use Rattle.std.specs.Prelude.{◌≡◌, ℕ, List, [], ◌++◌, codes, decimal, Option, Some, None, slice_index_or, Result, Ok, Err}
 use Rattle.cfg_ast.specs.declared.network.Network.{Network}
 use Rattle.cfg_ast.specs.declared.classes.DestClass.{DestClass}
@@ -44,7 +44,7 @@ pub record IsRest (problem : Problem) (labels : List (Option Route)) (o : Outcom
   pub is : IsMoving problem labels moving
   pub told : o ≡ done (rest_line problem moving ++ labels_text problem.names labels)
 
--- the labels after the schedule are told, or its refusal
+-- the labels after the schedule are reported, or its refusal
 abbrev pub IsOfActivations : Problem → Result (List Activation) ScheduleRefusal → Outcome → Type 0
 IsOfActivations problem (Ok schedule) o = IsRest problem (labels_after problem (no_labels problem) (run_of (count problem) schedule)) o
 IsOfActivations problem (Err (schedule_refusal.UnknownRouter line)) o = o ≡ refused (schedule_reason line)
@@ -53,12 +53,12 @@ IsOfActivations problem (Err schedule_refusal.Memory) o = ⊥
 abbrev pub IsOfSchedule : Problem → List ℕ → Outcome → Type 0
 IsOfSchedule problem text o = IsOfActivations problem (schedule_of_text problem.names text) o
 
--- what `run` is to tell of a class
+-- what `run` is to report of a class
 pub record IsRunOf (network : Network) (second : Option (List ℕ)) (class : DestClass) (o : Outcome) : Type 0 where
   pub problem : Problem
   pub of_class : IsProblemOfClass network class problem
   pub ran : IsOfSecond schedule_limit long_schedule second (IsOfSchedule problem) o
 
--- what `run` is to tell of a network and the number of a class
+-- what `run` is to report of a network and the number of a class
 abbrev pub IsRunAnswer : Network → ℕ → Option (List ℕ) → Outcome → Type 0
 IsRunAnswer network number second = IsOfClass (class_at (classes_of network) number) number (IsRunOf network second)

@@ -2,12 +2,12 @@
 
 ghost use Rattle.answer_runs.specs.OneAnswer.{RunAnswerIsOne, ReachAnswerIsOne};
 
-/// `run` has one answer to a network, the number of a class and a schedule that is told.
+/// `run` has one answer to a network, the number of a class and a schedule that is known.
 pub fn run_answer_is_one()
     ensures { RunAnswerIsOne }
 {}
 
-/// `reach` has one answer to a network, the number of a class and a solution that is told.
+/// `reach` has one answer to a network, the number of a class and a solution that is known.
 pub fn reach_answer_is_one()
     ensures { ReachAnswerIsOne }
 {}

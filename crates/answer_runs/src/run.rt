@@ -1,6 +1,6 @@
 //! The command `run`.
 
-ghost use Rattle.std.specs.Prelude.{◌≡◌, ◌≤◌, ◌<◌, ℕ, All, List, Contains, IfOk, length};
+ghost use Rattle.std.specs.Prelude.{◌≡◌, ◌≤◌, ◌<◌, ◌++◌, ℕ, All, List, Contains, IfOk, OnOk, length, string_bytes};
 ghost use Rattle.cfg_ast.specs.meaning.Classes.{classes_of};
 ghost use Rattle.io_kit.specs.Ends.{Rose};
 ghost use Rattle.srp_core.specs.Problem.{count};
@@ -19,38 +19,39 @@ use cfg_check::Checked;
 use driver::problem_of_class;
 use io_kit::Source;
 use route_run::{Activation, ScheduleRefusal, moving, read_schedule, run_schedule};
-use solution_text::print_labels;
-use srp_core::{Labels, Srp};
+use shared_routes::SharedLabels;
+use solution_text::text_with_labels;
+use srp_core::Srp;
 use std::alloc::{AllocError, Global};
+use std::fmt::Write;
 
 // A schedule has at most this many bytes.
 const SCHEDULE_LIMIT: usize = 16_777_216;
 
 // Whether labels are at rest, in a line.
-fn rest_line(alloc: Global, problem: &Srp, moving: Option<u32>) -> Result<Vec<u8>, AllocError>
-    ensures { IfOk result (λ bytes. bytes.items ≡ rest_line problem.now moving) }
+fn put_rest(text: &mut String, problem: &Srp, moving: Option<u32>) -> Result<(), AllocError>
+    ensures { OnOk result (string_bytes text.new ≡ string_bytes text.old ++ rest_line problem.now moving) }
 {
     match moving {
-        None => Vec::from_slice(alloc, b"rest\n"),
+        None => text.push_str("rest\n"),
         Some(router) => {
             let name = router_name(problem, router);
-            let text = format!(in alloc; "moving {name}\n")?;
-            Ok(text.into_bytes())
+            write!(text, "moving {name}\n")
         }
     }
 }
 
-// The line, and the labels behind it.
-fn rest_text(alloc: Global, problem: &Srp, labels: &Labels) -> Result<Vec<u8>, NoMemory>
+// The line, and the labels behind it. The text is long, so it is built in one piece.
+fn rest_text(alloc: Global, problem: &Srp, labels: &SharedLabels) -> Result<Vec<u8>, NoMemory>
     requires { AreLabels problem.now labels.now }
     ensures { IfOk result (λ bytes. IsRest problem.now labels.now (done bytes.items)) }
 {
     let _known = problem.count();
     let moving = moving(alloc, problem, labels)?;
-    let mut text = rest_line(alloc, problem, moving)?;
-    let lines = print_labels(alloc, labels, problem.names())?;
-    text.extend_from_slice(&lines)?;
-    Ok(text)
+    let mut text = String::new(alloc);
+    put_rest(&mut text, problem, moving)?;
+    let text = text_with_labels(alloc, text, labels, problem.names())?;
+    Ok(text.into_bytes())
 }
 
 // Runs a schedule of the problem.

@@ -1,4 +1,4 @@
--- From what folding, lifting and the check of labels answer to what is to be told.
+-- From what folding, lifting and the check of labels answer to what is to be reported.
 use Rattle.std.proofs.Common.{◌≡◌, ℕ, List, refl, subst, Option}
 use Rattle.cfg_ast.specs.declared.network.Network.{Network}
 use Rattle.cfg_ast.specs.declared.classes.DestClass.{DestClass}

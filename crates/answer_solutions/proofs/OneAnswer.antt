@@ -1,4 +1,4 @@
--- A command has one answer to a network, the number of a class and a solution that is told.
+-- A command has one answer to a network, the number of a class and a solution that is known.
 use Rattle.std.proofs.Common.{refl}
 use Rattle.cfg_ast.specs.meaning.Classes.{classes_of}
 use Rattle.answer_kit.specs.ClassNumbers.{class_at}

@@ -1,4 +1,4 @@
--- Public: what is told of the labels of a class that a second file gives is determined, where it is of labels.
+-- Public: what is reported of the labels of a class that a second file gives is determined, where it is of labels.
 use Rattle.std.proofs.Common.{◌≡◌, ℕ, List, Option}
 use Rattle.std.specs.Prelude.{Contains, IsSome}
 use Rattle.cfg_ast.specs.declared.network.Network.{Network}

@@ -1,4 +1,4 @@
--- What the command `check` tells of a solution.
+-- What the command `check` reports of a solution.
 use Rattle.std.specs.Prelude.{◌≡◌, ℕ, List, [], ◌++◌, codes, Option, slice_index_or, nat_eq, if◌then◌else◌}
 use Rattle.cfg_ast.specs.declared.network.Network.{Network}
 use Rattle.cfg_ast.specs.declared.classes.DestClass.{DestClass}
@@ -28,17 +28,17 @@ abbrev pub told_of : Problem → Answer → Outcome
 told_of problem Stable = done (codes "stable\n")
 told_of problem (Not router why) = not_stable (break_reason problem router why)
 
--- labels of the problem are judged, and the answer is told
+-- labels of the problem are judged, and the answer is reported
 pub record IsJudgement (problem : Problem) (labels : List (Option Route)) (o : Outcome) : Type 0 where
   pub fitting : AreLabels problem labels
   pub answer : Answer
   pub judged : Judges problem labels answer
   pub told : o ≡ told_of problem answer
 
--- what `check` is to tell of a class
+-- what `check` is to report of a class
 abbrev pub IsCheckOf : Network → Option (List ℕ) → DestClass → Outcome → Type 0
 IsCheckOf = IsOfClassSolution IsJudgement
 
--- what `check` is to tell of a network and the number of a class
+-- what `check` is to report of a network and the number of a class
 abbrev pub IsCheckAnswer : Network → ℕ → Option (List ℕ) → Outcome → Type 0
 IsCheckAnswer network number second = IsOfClass (class_at (classes_of network) number) number (IsCheckOf network second)

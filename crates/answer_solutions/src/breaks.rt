@@ -1,4 +1,4 @@
-//! What is told of labels that are not stable.
+//! What is reported of labels that are not stable.
 
 ghost use Rattle.std.specs.Prelude.{◌≡◌, IfOk};
 ghost use Rattle.answer_kit.specs.Outcome.{not_stable};

@@ -21,7 +21,7 @@ use io_kit::Source;
 use srp_core::{Labels, Srp};
 use std::alloc::Global;
 
-/// A command that tells something of the labels of a problem.
+/// A command that reports something of the labels of a problem.
 pub trait TellsOfLabels {
     /// Which outcomes the command may have: `allowed problem labels outcome`. Each command has its own
     /// definition here, as `check` has `IsJudgement`.
@@ -33,7 +33,7 @@ pub trait TellsOfLabels {
         ensures { Answers result (allowed problem.now labels.now) ⊥ ⊥ };
 }
 
-// What is told of the labels of the problem that the second file gives.
+// What is reported of the labels of the problem that the second file gives.
 fn answer_of_problem<T: TellsOfLabels, S: Source>(
     alloc: Global,
     problem: &Srp,
@@ -51,7 +51,7 @@ fn answer_of_problem<T: TellsOfLabels, S: Source>(
     }
 }
 
-/// What is told of the labels of a class that the second file gives.
+/// What is reported of the labels of a class that the second file gives.
 pub fn answer_of_solution<T: TellsOfLabels, S: Source>(
     alloc: Global,
     checked: &Checked,

@@ -9,7 +9,7 @@ use solution_lift::laws::{folding_is_one, lifting_is_one};
 use solution_round_trip::{printed_is_read_back, stable_is_in_range, stable_of_groups_is_in_range};
 use srp_quotient::laws::quotient_is_quotient;
 
-/// `check` has one answer to a network, the number of a class and a solution that is told.
+/// `check` has one answer to a network, the number of a class and a solution that is known.
 pub fn check_answer_is_one()
     ensures { CheckAnswerIsOne }
 {}

@@ -3,7 +3,7 @@
 //!
 //! Each command replies with an outcome that its definition allows, or that the second file could not be
 //! read, or that memory ran out. The module `laws` says that there is only one such outcome if the file
-//! is told. It also says that what `fold` and `lift` write is read as labels that are stable in the
+//! is known. It also says that what `fold` and `lift` write is read as labels that are stable in the
 //! other problem and correspond.
 #![tactic(auto)]
 

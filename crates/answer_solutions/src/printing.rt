@@ -8,18 +8,19 @@ ghost use Rattle.answer_kit.specs.Replies.{Answers, Only};
 
 use answer_kit::Reply;
 use base_kit::NoMemory;
-use solution_text::print_labels;
-use srp_core::{Labels, Srp};
+use shared_routes::SharedLabels;
+use solution_text::text_with_labels;
+use srp_core::Srp;
 use std::alloc::Global;
 
 /// The text of labels of a problem.
-pub fn printed(alloc: Global, problem: &Srp, labels: &Labels) -> Reply
+pub fn printed(alloc: Global, problem: &Srp, labels: &SharedLabels) -> Reply
     requires { AreLabels problem.now labels.now }
     ensures { Answers result (Only (done (labels_text problem.now.names labels.now))) ⊥ ⊥ }
 {
     let _known = problem.count();
-    match print_labels(alloc, labels, problem.names()) {
-        Ok(bytes) => Reply::Output(bytes),
+    match text_with_labels(alloc, String::new(alloc), labels, problem.names()) {
+        Ok(text) => Reply::Output(text.into_bytes()),
         Err(NoMemory) => Reply::NoMemory,
     }
 }

@@ -16,7 +16,7 @@ use Rattle.srp_core.specs.Stability.{label, AreLabels}
 use Rattle.srp_core.proofs.Offers.{cases_label}
 use Rattle.route_run.specs.declared.resting.State.{State}
 use Rattle.route_run.specs.Activations.{activated, chosen_label, chosen_of}
-use Rattle.route_run.specs.Rests.{is_marked, IsRunState, HasWoken}
+use Rattle.route_run.specs.Rests.{is_at_rest, IsRunState, HasWoken}
 use Rattle.route_run.proofs.AtRest.{activated_here, activated_other, activated_labels, empty_list}
 use Rattle.route_run.proofs.BestChoices.{best_chosen, chosen_none, chosen_nothing, chosen_some}
 
@@ -27,7 +27,8 @@ here_by true x y h = h refl
 here_by false x y h = refl
 
 over_same : (P : Problem) (L M : List (Option Route)) (e : Edge) → label M e.exporter ≡ label L e.exporter → over P M e ≡ over P L e
-over_same P L M e same = ap (λ (o : Option Route). option_and_then (λ (from : Route). option_and_then (passed (number P e.importer)) (step_over P e from)) o) same
+over_same P L M e same = ap (λ (o : Option Route). option_and_then (λ (from : Route). option_and_then (passed (number P e.importer)) (step_over P e from)) o)
+    same
 
 edges_same : (P : Problem) (L M : List (Option Route)) (u place : ℕ) (edges : List Edge) →
     ((e : Edge) → In edges e → e.importer ≡ u → label M e.exporter ≡ label L e.exporter) → over_edges P M u place edges ≡ over_edges P L u place edges
@@ -55,7 +56,7 @@ chosen_twice test all held = elim (cases_label (chosen_of test all held)) [
 
 -- ---- marks
 
-pub unmarked : (n u : ℕ) → is_marked (replicate n false) u ≡ false
+pub unmarked : (n u : ℕ) → is_at_rest (replicate n false) u ≡ false
 unmarked n u = elim (cases_lt u n) [
   | inl h ↦ get_or-replicate n u false false h
   | inr h ↦ get_or_past (replicate n false) u false (let l = length-replicate n false in omega (arith, h, l))
@@ -66,25 +67,25 @@ pub state_unknown : (P : Problem) (s : State) (n : ℕ) → AreLabels P s.labels
 state_unknown P s n fits none total = record {
   fitting = fits;
   total = ap length none ∙ length-replicate n false ∙ total;
-  rest = λ u t. absurd (true≢false (sym t ∙ ap (λ (l : List Bool). is_marked l u) none ∙ unmarked n u));
+  rest = λ u t. absurd (true≢false (sym t ∙ ap (λ (l : List Bool). is_at_rest l u) none ∙ unmarked n u));
 }
 
 -- one mark more
-set_marked : (marks : List Bool) (u v : ℕ) → v ≢ u → is_marked (set marks u true) v ≡ true → is_marked marks v ≡ true
+set_marked : (marks : List Bool) (u v : ℕ) → v ≢ u → is_at_rest (set marks u true) v ≡ true → is_at_rest marks v ≡ true
 set_marked marks u v differ t = sym (get_or-set_other marks u v true false differ) ∙ t
 
 -- one mark less
-pub set_unmarked : (marks : List Bool) (u v : ℕ) → is_marked (set marks u false) v ≡ true → is_marked marks v ≡ true
+pub set_unmarked : (marks : List Bool) (u v : ℕ) → is_at_rest (set marks u false) v ≡ true → is_at_rest marks v ≡ true
 set_unmarked marks u v t = elim (cases_eq v u) [
   | inl same ↦ elim (cases_lt u (length marks)) [
-    | inl h ↦ absurd (true≢false (sym t ∙ ap (is_marked (set marks u false)) same ∙ get_or-set_same marks u false false h))
+    | inl h ↦ absurd (true≢false (sym t ∙ ap (is_at_rest (set marks u false)) same ∙ get_or-set_same marks u false false h))
     | inr h ↦ absurd (true≢false (sym t ∙ get_or_past (set marks u false) v false (let l = length-set marks u false in omega (arith, h, l, same))))
   ]
   | inr differ ↦ sym (get_or-set_other marks u v false false differ) ∙ t
 ]
 
-pub unmarked_still : (marks : List Bool) (u v : ℕ) → is_marked marks v ≡ false → is_marked (set marks u false) v ≡ false
-unmarked_still marks u v e = elim (cases_Bool (is_marked (set marks u false) v)) [
+pub unmarked_still : (marks : List Bool) (u v : ℕ) → is_at_rest marks v ≡ false → is_at_rest (set marks u false) v ≡ false
+unmarked_still marks u v e = elim (cases_Bool (is_at_rest (set marks u false) v)) [
   | inl t ↦ absurd (true≢false (sym (set_unmarked marks u v t) ∙ e))
   | inr f ↦ f
 ]
@@ -96,10 +97,11 @@ pub state_kept : (P : Problem) (s t : State) (u : ℕ) → IsRunState P s → ch
 state_kept P s t u is keeps same marks = record {
   fitting = subst (AreLabels P) (sym same) is.fitting;
   total = ap length marks ∙ length-set s.rests.items u true ∙ is.total;
-  rest = λ v h. subst (λ (l : List (Option Route)). chosen_label P l v ≡ label l v) (sym same) (kept v (subst (λ (m : List Bool). is_marked m v ≡ true) marks h));
+  rest = λ v h. subst (λ (l : List (Option Route)). chosen_label P l v ≡ label l v) (sym same)
+      (kept v (subst (λ (m : List Bool). is_at_rest m v ≡ true) marks h));
 }
   where
-    kept : (v : ℕ) → is_marked (set s.rests.items u true) v ≡ true → chosen_label P s.labels v ≡ label s.labels v
+    kept : (v : ℕ) → is_at_rest (set s.rests.items u true) v ≡ true → chosen_label P s.labels v ≡ label s.labels v
     kept v h = elim (cases_eq v u) [
       | inl here ↦ subst (λ (k : ℕ). chosen_label P s.labels k ≡ label s.labels k) (sym here) keeps
       | inr differ ↦ is.rest v (set_marked s.rests.items u v differ h)
@@ -129,16 +131,17 @@ module _ (P : Problem) (good : IsProblem P) where
   state_taken s t u woken inside is wakes same marks = record {
     fitting = subst (AreLabels P) (sym same) (activated_labels P good s.labels u is.fitting);
     total = ap length marks ∙ length-set woken u true ∙ wakes.total ∙ is.total;
-    rest = λ v h. subst (λ (l : List (Option Route)). chosen_label P l v ≡ label l v) (sym same) (rests v (subst (λ (m : List Bool). is_marked m v ≡ true) marks h));
+    rest = λ v h. subst (λ (l : List (Option Route)). chosen_label P l v ≡ label l v) (sym same)
+        (rests v (subst (λ (m : List Bool). is_at_rest m v ≡ true) marks h));
   }
     where
       total : length s.labels ≡ count P
       total = is.fitting.total
 
-      others : (v : ℕ) → is_marked woken v ≡ true → (e : Edge) → Contains P.edges e → e.importer ≡ v → e.exporter ≢ u
-      others v t e i imp eq = true≢false (sym t ∙ ap (is_marked woken) (sym imp) ∙ wakes.woken e i eq)
+      others : (v : ℕ) → is_at_rest woken v ≡ true → (e : Edge) → Contains P.edges e → e.importer ≡ v → e.exporter ≢ u
+      others v t e i imp eq = true≢false (sym t ∙ ap (is_at_rest woken) (sym imp) ∙ wakes.woken e i eq)
 
-      rests : (v : ℕ) → is_marked (set woken u true) v ≡ true → chosen_label P (activated P s.labels u) v ≡ label (activated P s.labels u) v
+      rests : (v : ℕ) → is_at_rest (set woken u true) v ≡ true → chosen_label P (activated P s.labels u) v ≡ label (activated P s.labels u) v
       rests v h = elim (cases_eq v u) [
         | inl here ↦ subst (λ (k : ℕ). chosen_label P (activated P s.labels u) k ≡ label (activated P s.labels u) k) (sym here)
             (rests_here s.labels u (omega (arith, inside, total)))
@@ -169,19 +172,19 @@ importer_inside P good exporter imports k d all at =
 
 -- those of the first so many imports are woken
 abbrev pub AreWoken : List Bool → List Import → ℕ → Type 0
-AreWoken marks imports n = (k : ℕ) (d : Import) → k < n → is_marked marks (get_or imports k d).importer ≡ false
+AreWoken marks imports n = (k : ℕ) (d : Import) → k < n → is_at_rest marks (get_or imports k d).importer ≡ false
 
 pub woken_more : (marks : List Bool) (imports : List Import) (n : ℕ) (i : Import) → i.importer < length marks → n < length imports →
     i ≡ get_or imports n i → AreWoken marks imports n → AreWoken (set marks i.importer false) imports (n + 1)
 woken_more marks imports n i inside less is woken k d h = elim (cases_eq k n) [
-  | inl same ↦ subst (λ (m : Import). is_marked (set marks i.importer false) m.importer ≡ false)
+  | inl same ↦ subst (λ (m : Import). is_at_rest (set marks i.importer false) m.importer ≡ false)
       (is ∙ get_or_default imports n i d less ∙ ap (λ (m : ℕ). get_or imports m d) (sym same))
       (get_or-set_same marks i.importer false false inside)
   | inr differ ↦ unmarked_still marks i.importer (get_or imports k d).importer (woken k d (omega (arith, h, differ)))
 ]
 
 pub has_woken : (P : Problem) (router : ℕ) (before after : List Bool) (imports : List Import) (n : ℕ) → length after ≡ length before →
-    ((u : ℕ) → is_marked after u ≡ true → is_marked before u ≡ true) → imports ≡ filter_map (import_from router) P.edges → length imports ≤ n →
+    ((u : ℕ) → is_at_rest after u ≡ true → is_at_rest before u ≡ true) → imports ≡ filter_map (import_from router) P.edges → length imports ≤ n →
     AreWoken after imports n → HasWoken P router before after
 has_woken P router before after imports n total still all end woken = record {
   total = total;
@@ -191,7 +194,7 @@ has_woken P router before after imports n total still all end woken = record {
       let listed = subst (λ (l : List Import). Contains l i) (sym all) (contains_in (filter_map (import_from router) P.edges) i
       (in_filter_map (import_from router) P.edges e i (in_contains P.edges e at) (import_of router e is))) in
       let l = listed.1 in
-      subst (λ (m : Import). is_marked after m.importer ≡ false) listed.2 (woken listed.0 i (omega (arith, l, end)));
+      subst (λ (m : Import). is_at_rest after m.importer ≡ false) listed.2 (woken listed.0 i (omega (arith, l, end)));
 }
 
 -- ---- what the problem lists

@@ -15,17 +15,17 @@ pub record AreExports (problem : Problem) (imports : List (Vec Import Global)) :
   pub index : IsImportIndex problem.edges imports
 
 -- the mark of a router
-abbrev pub is_marked : List Bool → ℕ → Bool
-is_marked marks router = slice_index_or marks router false
+abbrev pub is_at_rest : List Bool → ℕ → Bool
+is_at_rest marks router = slice_index_or marks router false
 
 -- an activation of each router that is marked keeps its label
 pub record IsRunState (problem : Problem) (state : State) : Type 0 where
   pub fitting : AreLabels problem state.labels
   pub total : length state.rests.items ≡ count problem
-  pub rest : (u : ℕ) → is_marked state.rests.items u ≡ true → chosen_label problem state.labels u ≡ label state.labels u
+  pub rest : (u : ℕ) → is_at_rest state.rests.items u ≡ true → chosen_label problem state.labels u ≡ label state.labels u
 
 -- no router that imports from this one is marked any more, and no router is newly marked
 pub record HasWoken (problem : Problem) (router : ℕ) (before after : List Bool) : Type 0 where
   pub total : length after ≡ length before
-  pub still : (u : ℕ) → is_marked after u ≡ true → is_marked before u ≡ true
-  pub woken : (edge : Edge) → Contains problem.edges edge → edge.exporter ≡ router → is_marked after edge.importer ≡ false
+  pub still : (u : ℕ) → is_at_rest after u ≡ true → is_at_rest before u ≡ true
+  pub woken : (edge : Edge) → Contains problem.edges edge → edge.exporter ≡ router → is_at_rest after edge.importer ≡ false

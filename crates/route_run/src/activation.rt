@@ -11,7 +11,8 @@ use crate::choosing::{Choice, choose};
 use base_kit::NoMemory;
 use refine_partition::{Exports, exports_of};
 use route_keys::{LoneNumbers, lone_numbers};
-use srp_core::{Labels, Srp};
+use shared_routes::{SharedLabels, candidates};
+use srp_core::Srp;
 use std::alloc::Global;
 use std::marker::Model;
 
@@ -62,10 +63,10 @@ impl<'a> Runner<'a> {
     }
 
     /// The labels before any activation: no router has one.
-    pub(crate) fn no_labels(&self) -> Result<Labels, NoMemory>
+    pub(crate) fn no_labels(&self) -> Result<SharedLabels, NoMemory>
         ensures { IfOk result (λ labels. labels ≡ no_labels self.now) }
     {
-        let mut labels = Labels::new(self.alloc);
+        let mut labels = SharedLabels::new(self.alloc);
         for _router in 0..self.count() {
             labels.push(None)?;
         }
@@ -73,12 +74,12 @@ impl<'a> Runner<'a> {
     }
 
     /// What a router chooses, by the labels as they stand.
-    pub(crate) fn choice(&self, labels: &Labels, router: u32) -> Result<Choice, NoMemory>
+    pub(crate) fn choice(&self, labels: &SharedLabels, router: u32) -> Result<Choice, NoMemory>
         requires router { router < count self.now }
         requires labels { AreLabels self.now labels.now }
         ensures { IfOk result (IsChoice (chosen_label self.now labels.now router) (label labels.now router)) }
     {
-        let candidates = self.srp.candidates(labels, router)?;
+        let candidates = candidates(self.alloc, self.srp, labels, router)?;
         choose(
             self.alloc,
             &self.lone,
@@ -106,7 +107,7 @@ impl<'a> Runner<'a> {
     /// # Errors
     ///
     /// Out of memory: the labels stay as they were.
-    pub fn activate(&self, labels: &mut Labels, router: u32) -> Result<bool, NoMemory>
+    pub fn activate(&self, labels: &mut SharedLabels, router: u32) -> Result<bool, NoMemory>
         requires router { router < count self.now }
         requires labels { AreLabels self.now labels.old }
         ensures ok { IfOk result (λ _. labels.new ≡ activated self.now labels.old router) }
@@ -134,7 +135,7 @@ impl<'a> Runner<'a> {
 pub fn activate(
     alloc: Global,
     srp: &Srp,
-    labels: &mut Labels,
+    labels: &mut SharedLabels,
     router: u32,
 ) -> Result<bool, NoMemory>
     requires router { router < count srp.now }

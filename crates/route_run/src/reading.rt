@@ -27,7 +27,7 @@ fn activation_of(places: &NamePlaces, names: &[Text], word: &[u8]) -> Option<Act
     }
 }
 
-// Puts the activations of a line last, or tells that a word of it is none.
+// Puts the activations of a line last, or says that a word of it is none.
 fn read_line(
     places: &NamePlaces,
     names: &[Text],

@@ -9,18 +9,22 @@ ghost use Rattle.route_run.specs.Rests.{IsRunState};
 use crate::activation::Runner;
 use crate::choosing::Choice;
 use base_kit::NoMemory;
-use srp_core::{Labels, Route};
+use shared_routes::{SharedLabels, SharedRoute};
 use std::alloc::Global;
 
 /// The labels as they stand, and for each router whether it is known that an activation keeps its label.
 #[derive(Drop)]
 pub(crate) struct State {
-    pub(crate) labels: Labels,
+    pub(crate) labels: SharedLabels,
     pub(crate) rests: Vec<bool>,
 }
 
 /// The state of these labels, where of no router it is known that it rests.
-pub(crate) fn state_of(alloc: Global, runner: &Runner, labels: Labels) -> Result<State, NoMemory>
+pub(crate) fn state_of(
+    alloc: Global,
+    runner: &Runner,
+    labels: SharedLabels,
+) -> Result<State, NoMemory>
     requires { AreLabels runner.now labels }
     ensures labels { IfOk result (λ state. state.labels ≡ labels) }
     ensures state { IfOk result (IsRunState runner.now) }
@@ -41,7 +45,7 @@ fn keep(runner: &Runner, state: &mut State, router: u32)
 }
 
 // The router takes another label, and rests. Those who import from it may choose anew.
-fn take(runner: &Runner, state: &mut State, router: u32, label: Option<Route>)
+fn take(runner: &Runner, state: &mut State, router: u32, label: Option<SharedRoute>)
     requires router { router < count runner.now }
     requires state { IsRunState runner.now state.old }
     requires chosen { chosen_label runner.now state.old.labels router ≡ label }

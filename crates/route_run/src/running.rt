@@ -15,7 +15,8 @@ use crate::choosing::Choice;
 use crate::resting::{State, activate_once, state_of};
 use crate::schedule::Activation;
 use base_kit::{List, NoMemory};
-use srp_core::{Labels, Srp};
+use shared_routes::SharedLabels;
+use srp_core::Srp;
 use std::alloc::Global;
 
 // Activates all routers in order.
@@ -50,7 +51,7 @@ pub fn run_schedule(
     alloc: Global,
     srp: &Srp,
     schedule: &List<Activation>,
-) -> Result<Labels, NoMemory>
+) -> Result<SharedLabels, NoMemory>
     requires { All (λ u. u < count srp.now) (run_of (count srp.now) schedule.now) }
     ensures labels { IfOk result (AreLabels srp.now) }
     ensures run { IfOk result (λ labels. labels ≡ labels_after srp.now (no_labels srp.now) (run_of (count srp.now) schedule.now)) }
@@ -67,7 +68,7 @@ pub fn run_schedule(
     Ok(state.labels)
 }
 
-fn moves(runner: &Runner, labels: &Labels, router: u32) -> Result<bool, NoMemory>
+fn moves(runner: &Runner, labels: &SharedLabels, router: u32) -> Result<bool, NoMemory>
     requires router { router < count runner.now }
     requires labels { AreLabels runner.now labels.now }
     ensures { IfOk result (λ moves. MatchBool moves (chosen_label runner.now labels.now router ≢ label labels.now router) (chosen_label runner.now labels.now router ≡ label labels.now router)) }
@@ -80,7 +81,7 @@ fn moves(runner: &Runner, labels: &Labels, router: u32) -> Result<bool, NoMemory
 
 /// The first router whose activation changes its label, or None where the labels are stable. There is one
 /// label for each router, each of the problem's protocol.
-pub fn moving(alloc: Global, srp: &Srp, labels: &Labels) -> Result<Option<u32>, NoMemory>
+pub fn moving(alloc: Global, srp: &Srp, labels: &SharedLabels) -> Result<Option<u32>, NoMemory>
     requires { AreLabels srp.now labels.now }
     ensures { IfOk result (λ router. MatchOption router (IsStable srp.now labels.now) (IsFirstMoving srp.now labels.now)) }
 {

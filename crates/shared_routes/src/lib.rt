@@ -6,10 +6,14 @@
 //! list of its numbers, a `SharedRoute` is a route, and `SharedLabels` are labels.
 #![tactic(auto)]
 
+mod candidate_lists;
 mod labels;
 mod paths;
 mod routes;
+mod stepping;
 
+pub use candidate_lists::{SharedCandidate, candidates};
 pub use labels::SharedLabels;
 pub use paths::SharedPath;
 pub use routes::{RouteParts, SharedRoute, comms_of, lone_on, preference_of, size_of};
+pub use stepping::route_by;

@@ -18,7 +18,7 @@ use Rattle.srp_core.specs.Lifts.{GroupTakes, IsFirstOn}
 use Rattle.srp_core.specs.Filling.{IsFoldedPart, IsNextToFold}
 use Rattle.srp_quotient.specs.Groups.{first_member}
 use Rattle.solution_lift.specs.declared.tasks.Task.{Task}
-use Rattle.solution_lift.specs.Carrying.{Sources, source_of, IsTaken, GetsRoute, task_of, IsOrder}
+use Rattle.solution_lift.specs.Carrying.{Sources, source_of, IsTakenOver, GetsRoute, task_of, IsOrder}
 use Rattle.solution_lift.proofs.Ranges.{range_at}
 use Rattle.solution_lift.proofs.TasksDone.{IsSoFar, some_route, cases_route}
 
@@ -146,7 +146,7 @@ module _ (S Q : Problem) (groups : List ℕ) (count : ℕ) (labels : List (Optio
 
 -- what is taken where something fits is taken as folding asks for
 pub group_takes : (S Q : Problem) (count : ℕ) (E : List (Option Route)) (g source : ℕ) (r : Route) (route : Option Route) → IsProblem Q → count_of Q ≡ count →
-    key_of S r ≡ key_of Q r → IsTaken Q (range_with_len 0 count) E g source (key_of Q r) route → (m : Route) × GroupTakes S Q E g source m r →
+    key_of S r ≡ key_of Q r → IsTakenOver Q (range_with_len 0 count) E g source (key_of Q r) route → (m : Route) × GroupTakes S Q E g source m r →
     (m : Route) × (route ≡ Some m) × GroupTakes S Q E g source m r
 group_takes S Q count E g source r None rules size agree none (m, t) =
     absurd (none.none t.edge m t.edge_in t.importer (let i = (rules.edges.inside t.edge t.edge_in).exporter_in in let at =
@@ -189,7 +189,7 @@ next_part S Q groups count labels E firsts g u r sources route at there origins 
           let s = source none in
           let asked : label labels (slice_index firsts g) ≡ Some r = ap (label labels) at ∙ next.asked in
           let t = group_takes S Q count E (group_of groups u) (group_of groups s.0) r route rules size agree
-          (subst (λ (n : ℕ). IsTaken Q (range_with_len 0 count) E n (group_of groups s.0) (key_of Q r) route) (sym there)
+          (subst (λ (n : ℕ). IsTakenOver Q (range_with_len 0 count) E n (group_of groups s.0) (key_of Q r) route) (sym there)
           (is.taken r (slice_index groups s.0) (start_at none) asked (sourced s.0 s.1))) (found s.0 none s.1) in
           (t.0, t.1, subst (λ (n : ℕ). IsFoldedPart S Q groups labels (slice_set E n (Some t.0))) there (taken s.0 t.0 none s.1 t.2))
     ]

@@ -12,7 +12,7 @@ use Rattle.srp_core.specs.Stability.{label}
 use Rattle.srp_core.specs.Lifts.{TakesFrom, IsFirstOn}
 use Rattle.srp_core.specs.Filling.{IsLiftedPart, IsNextToLift}
 use Rattle.solution_lift.specs.declared.tasks.Task.{Task}
-use Rattle.solution_lift.specs.Carrying.{Sources, source_of, IsTaken, GetsRoute, task_of, IsOrder}
+use Rattle.solution_lift.specs.Carrying.{Sources, source_of, IsTakenOver, GetsRoute, task_of, IsOrder}
 use Rattle.solution_lift.proofs.TasksDone.{IsSoFar, some_route, cases_route}
 
 module _ (S Q : Problem) (groups : List ℕ) (lower : List (Option Route)) (tasks : List Task) (order : IsOrder lower groups tasks)
@@ -55,7 +55,7 @@ module _ (S Q : Problem) (groups : List ℕ) (lower : List (Option Route)) (task
 
 -- what is taken where something fits is taken as lifting asks for
 pub taken_from : (S Q : Problem) (groups : List ℕ) (E : List (Option Route)) (u source : ℕ) (m : Route) (route : Option Route) → key_of S m ≡ key_of Q m →
-    IsTaken S groups E u source (key_of S m) route → (r : Route) × TakesFrom S Q groups E u source r m → (r : Route) × (route ≡ Some r)
+    IsTakenOver S groups E u source (key_of S m) route → (r : Route) × TakesFrom S Q groups E u source r m → (r : Route) × (route ≡ Some r)
     × TakesFrom S Q groups E u source r m
 taken_from S Q groups E u source m None agree none (r, t) = absurd (none.none t.edge r t.edge_in t.importer t.exporter t.over (t.keyed ∙ sym agree))
 taken_from S Q groups E u source m (Some r) agree t found = (

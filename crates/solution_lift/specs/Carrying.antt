@@ -30,9 +30,9 @@ pub record TakesNone (problem : Problem) (sides : List ℕ) (labels : List (Opti
   pub none : (edge : Edge) (candidate : Route) → Contains problem.edges edge → edge.importer ≡ router → slice_index sides edge.exporter ≡ source →
       IsCandidateOver problem labels edge candidate → key_of problem candidate ≢ key
 
-abbrev pub IsTaken : Problem → List ℕ → List (Option Route) → ℕ → ℕ → Key → Option Route → Type 0
-IsTaken problem sides labels router source key None = TakesNone problem sides labels router source key
-IsTaken problem sides labels router source key (Some route) = Takes problem sides labels router source key route
+abbrev pub IsTakenOver : Problem → List ℕ → List (Option Route) → ℕ → ℕ → Key → Option Route → Type 0
+IsTakenOver problem sides labels router source key None = TakesNone problem sides labels router source key
+IsTakenOver problem sides labels router source key (Some route) = Takes problem sides labels router source key route
 
 -- the sides of AS numbers
 abbrev pub Sources : Type 0
@@ -47,7 +47,7 @@ pub record GetsRoute (problem : Problem) (asked : List (Option Route)) (at sides
     (next : Option Route) : Type 0 where
   pub started : (i : Route) → initial problem router ≡ Some i → next ≡ Some i
   pub taken : (wanted : Route) (source : ℕ) → initial problem router ≡ None → label asked (slice_index at router) ≡ Some wanted →
-      source_of sources wanted ≡ Some source → IsTaken problem sides labels router source (key_of problem wanted) next
+      source_of sources wanted ≡ Some source → IsTakenOver problem sides labels router source (key_of problem wanted) next
 
 abbrev pub task_of : ℕ → Route → Task
 task_of router route = record { place = router; size = size_of route }

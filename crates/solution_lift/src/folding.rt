@@ -14,11 +14,12 @@ ghost use Rattle.solution_lift.specs.Carried.{IsFolding};
 use crate::next::next;
 use crate::problem::quotient_srp;
 use crate::sides::{groups_of, no_labels, places, sources_of};
-use crate::tables::{first_member, first_members, route_copy};
+use crate::tables::{first_member, first_members, shared_copy};
 use crate::tasks::tasks_of;
 use base_kit::{NoMemory, Protocol};
 use refine_partition::Partition;
 use route_keys::lone_numbers;
+use shared_routes::SharedLabels;
 use srp_core::laws::filling::fold_steps;
 use srp_core::laws::keys::across_quotients;
 use srp_core::laws::{equal_keys, folds, ospf_folds};
@@ -35,7 +36,7 @@ fn fold_routes(
     p: &Partition,
     count: u32,
     labels: &Labels,
-) -> Result<Labels, NoMemory>
+) -> Result<SharedLabels, NoMemory>
     requires can { CanBeFolded srp.now small.now p.now labels.now }
     requires numbered { IsNumbered p.now count }
     requires size { problem.count small.now ≡ count }
@@ -61,14 +62,19 @@ fn fold_routes(
     Ok(lower)
 }
 
-fn fold_costs(alloc: Global, p: &Partition, count: u32, labels: &Labels) -> Result<Labels, NoMemory>
+fn fold_costs(
+    alloc: Global,
+    p: &Partition,
+    count: u32,
+    labels: &Labels,
+) -> Result<SharedLabels, NoMemory>
     requires { IsNumbered p.now count }
     ensures total { IfOk result (λ lower. length lower ≡ count) }
     ensures costs { IfOk result (λ lower. (g : ℕ) → g < count → label lower g ≡ label labels.now (first_member p.now g)) }
 {
-    let mut lower = Labels::new(alloc);
+    let mut lower = SharedLabels::new(alloc);
     for group in 0..count {
-        lower.push(route_copy(alloc, labels.as_slice(), first_member(p, group))?)?;
+        lower.push(shared_copy(alloc, labels.as_slice(), first_member(p, group))?)?;
     }
     Ok(lower)
 }
@@ -85,7 +91,7 @@ pub fn fold_into(
     small: &Srp,
     p: &Partition,
     labels: &Labels,
-) -> Result<Labels, NoMemory>
+) -> Result<SharedLabels, NoMemory>
     requires groups { IsAdmissible srp.now p.now }
     requires quotient { IsQuotient srp.now p.now small.now }
     requires stable { IsStable srp.now labels.now }
@@ -133,5 +139,6 @@ pub fn fold(alloc: Global, srp: &Srp, p: &Partition, labels: &Labels) -> Result<
     let _also_known = p.groups();
     let links = links_of_groups(alloc, srp, p)?;
     let small = quotient_srp(alloc, srp, p, &links)?;
-    fold_into(alloc, srp, &small, p, labels)
+    let lower = fold_into(alloc, srp, &small, p, labels)?;
+    lower.plain(alloc)
 }

@@ -13,12 +13,13 @@ ghost use Rattle.solution_lift.specs.Carried.{IsLifting};
 use crate::next::next;
 use crate::problem::quotient_srp;
 use crate::sides::{groups_of, no_labels, places, sources_of};
-use crate::tables::route_copy;
+use crate::tables::shared_copy;
 use crate::tasks::tasks_of;
 use abstract_net::Quotient;
 use base_kit::{NoMemory, Protocol};
 use refine_partition::Partition;
 use route_keys::lone_numbers;
+use shared_routes::SharedLabels;
 use srp_core::laws::filling::lift_steps;
 use srp_core::laws::keys::across_quotients;
 use srp_core::laws::{lifts, ospf_lifts};
@@ -33,7 +34,7 @@ fn lift_routes(
     small: &Srp,
     p: &Partition,
     labels: &Labels,
-) -> Result<Labels, NoMemory>
+) -> Result<SharedLabels, NoMemory>
     requires { CanBeLifted srp.now small.now p.now labels.now }
     ensures { IfOk result (IsLift srp.now small.now p.now labels.now) }
 {
@@ -61,14 +62,14 @@ fn lift_costs(
     p: &Partition,
     labels: &Labels,
     routers: u32,
-) -> Result<Labels, NoMemory>
+) -> Result<SharedLabels, NoMemory>
     requires { length p.now ≡ routers }
     ensures total { IfOk result (λ upper. length upper ≡ routers) }
     ensures costs { IfOk result (λ upper. (u : ℕ) → u < routers → label upper u ≡ label labels.now (group_of p.now u)) }
 {
-    let mut upper = Labels::new(alloc);
+    let mut upper = SharedLabels::new(alloc);
     for router in 0..routers {
-        upper.push(route_copy(alloc, labels.as_slice(), p.group_of(router))?)?;
+        upper.push(shared_copy(alloc, labels.as_slice(), p.group_of(router))?)?;
     }
     Ok(upper)
 }
@@ -85,7 +86,7 @@ pub fn lift_from(
     small: &Srp,
     p: &Partition,
     labels: &Labels,
-) -> Result<Labels, NoMemory>
+) -> Result<SharedLabels, NoMemory>
     requires groups { IsAdmissible srp.now p.now }
     requires quotient { IsQuotient srp.now p.now small.now }
     requires stable { IsStable small.now labels.now }
@@ -138,5 +139,6 @@ pub fn lift(
     let _known = srp.count();
     let _also_known = p.groups();
     let small = quotient_srp(alloc, srp, p, q)?;
-    lift_from(alloc, srp, &small, p, labels)
+    let upper = lift_from(alloc, srp, &small, p, labels)?;
+    upper.plain(alloc)
 }

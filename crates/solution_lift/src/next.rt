@@ -6,20 +6,21 @@ ghost use Rattle.route_keys.specs.Lone.{HasLoneNumbers};
 ghost use Rattle.srp_core.specs.Problem.{count, key_of};
 ghost use Rattle.srp_core.specs.Routes.{path_of, chosen, IsRouteOf};
 ghost use Rattle.srp_core.specs.Stability.{label, AreLabels};
-ghost use Rattle.solution_lift.specs.Carrying.{IsTaken, GetsRoute, source_of};
+ghost use Rattle.solution_lift.specs.Carrying.{IsTakenOver, GetsRoute, source_of};
 ghost use Rattle.solution_lift.specs.Sides.{is_from, are_alike};
 
 use base_kit::{Edge, NoMemory, NumSet};
-use route_keys::{LoneNumbers, lone_on};
-use srp_core::{Candidate, Labels, Route, Srp};
+use route_keys::LoneNumbers;
+use shared_routes::{RouteParts, SharedCandidate, SharedLabels, SharedRoute, candidates, lone_on};
+use srp_core::{Route, Srp};
 use std::alloc::Global;
 use std::collections::HashMap;
 
 // Whether the candidate came over an edge from that side.
-fn is_from(edges: &[Edge], sides: &[u32], candidate: &Candidate, source: u32) -> bool
+fn is_from(edges: &[Edge], sides: &[u32], candidate: &SharedCandidate, source: u32) -> bool
     ensures { result ≡ is_from edges.now sides.now source candidate.now }
 {
-    match candidate.edge {
+    match candidate.edge() {
         Some(place) => match edges.get(place as usize) {
             Some(edge) => sides.get(edge.exporter as usize).copied().unwrap_or(0) == source,
             None => false,
@@ -29,12 +30,12 @@ fn is_from(edges: &[Edge], sides: &[u32], candidate: &Candidate, source: u32) ->
 }
 
 // Whether two routes have one preference, one size and the same communities.
-fn are_alike(route: &Route, other: &Route) -> bool
+fn are_alike(route: &SharedRoute, other: &Route) -> bool
     ensures { result ≡ are_alike route.now other.now }
 {
-    match (route, other) {
+    match (route.parts(), other) {
         (
-            Route::Bgp { lp, path, comms },
+            RouteParts::Bgp { lp, path, comms },
             Route::Bgp {
                 lp: other_lp,
                 path: other_path,
@@ -42,12 +43,12 @@ fn are_alike(route: &Route, other: &Route) -> bool
             },
         ) => {
             *lp == *other_lp
-                && path.as_slice().len() == other_path.as_slice().len()
+                && path.len() == other_path.as_slice().len()
                 && comms.as_slice() == other_comms.as_slice()
         }
-        (Route::Ospf { cost }, Route::Ospf { cost: other }) => *cost == *other,
-        (Route::Bgp { .. }, Route::Ospf { .. }) => false,
-        (Route::Ospf { .. }, Route::Bgp { .. }) => false,
+        (RouteParts::Ospf { cost }, Route::Ospf { cost: other }) => *cost == *other,
+        (RouteParts::Bgp { .. }, Route::Ospf { .. }) => false,
+        (RouteParts::Ospf { .. }, Route::Bgp { .. }) => false,
     }
 }
 
@@ -58,7 +59,7 @@ fn fits(
     edges: &[Edge],
     sides: &[u32],
     lone: &LoneNumbers,
-    candidate: &Candidate,
+    candidate: &SharedCandidate,
     source: u32,
     asked: &Route,
     wanted: &NumSet,
@@ -68,10 +69,10 @@ fn fits(
     if !is_from(edges, sides, candidate, source) {
         return Ok(false);
     }
-    if !are_alike(&candidate.route, asked) {
+    if !are_alike(candidate.route(), asked) {
         return Ok(false);
     }
-    let found = lone_on(alloc, lone, &candidate.route)?;
+    let found = lone_on(alloc, lone, candidate.route())?;
     Ok(found.as_slice() == wanted.as_slice())
 }
 
@@ -81,25 +82,25 @@ fn taken(
     target: &Srp,
     sides: &[u32],
     lone: &LoneNumbers,
-    labels: &Labels,
+    labels: &SharedLabels,
     router: u32,
     source: u32,
     asked: &Route,
-) -> Result<Option<Route>, NoMemory>
+) -> Result<Option<SharedRoute>, NoMemory>
     requires router { router < count target.now }
     requires labels { AreLabels target.now labels.now }
     requires asked { IsRouteOf target.now.protocol asked.now }
     requires lone { HasLoneNumbers target.now lone.now }
-    ensures { IfOk result (IsTaken target.now sides.now labels.now router source (key_of target.now asked.now)) }
+    ensures { IfOk result (IsTakenOver target.now sides.now labels.now router source (key_of target.now asked.now)) }
 {
     let _known = target.count();
-    let wanted = lone_on(alloc, lone, asked)?;
+    let wanted = route_keys::lone_on(alloc, lone, asked)?;
     let edges = target.edges();
-    let candidates = target.candidates(labels, router)?;
+    let candidates = candidates(alloc, target, labels, router)?;
     for candidate in candidates.as_slice() {
         let is_fit = fits(alloc, edges, sides, lone, candidate, source, asked, &wanted)?;
         if is_fit {
-            return Ok(Some(candidate.route.copy(alloc)?));
+            return Ok(Some(candidate.route().copy(alloc)?));
         }
     }
     Ok(None)
@@ -129,9 +130,9 @@ pub fn next(
     sides: &[u32],
     sources: &HashMap<u32, u32>,
     lone: &LoneNumbers,
-    labels: &Labels,
+    labels: &SharedLabels,
     router: u32,
-) -> Result<Option<Route>, NoMemory>
+) -> Result<Option<SharedRoute>, NoMemory>
     requires router { router < count target.now }
     requires place { router < length at.now }
     requires labels { AreLabels target.now labels.now }
@@ -141,7 +142,7 @@ pub fn next(
 {
     let _known = target.count();
     if let Some(route) = &target.init()[router as usize] {
-        return Ok(Some(route.copy(alloc)?));
+        return Ok(Some(SharedRoute::from_route(alloc, route)?));
     }
     match asked.get(at[router as usize] as usize) {
         Some(Some(wanted)) => match source_of(sources, wanted) {

@@ -6,7 +6,7 @@ ghost use Rattle.std.specs.List.{range_with_len};
 
 use base_kit::NoMemory;
 use refine_partition::Partition;
-use srp_core::Labels;
+use shared_routes::SharedLabels;
 use std::alloc::Global;
 use std::collections::HashMap;
 
@@ -51,10 +51,10 @@ pub fn sources_of(
 }
 
 /// No label for each of so many routers.
-pub fn no_labels(alloc: Global, count: u32) -> Result<Labels, NoMemory>
+pub fn no_labels(alloc: Global, count: u32) -> Result<SharedLabels, NoMemory>
     ensures { IfOk result (λ labels. labels ≡ replicate count None) }
 {
-    let mut labels = Labels::new(alloc);
+    let mut labels = SharedLabels::new(alloc);
     for _router in 0..count {
         labels.push(None)?;
     }

@@ -12,6 +12,7 @@ ghost use Rattle.abstract_net.specs.Carried.{IsBelow};
 use abstract_net::QLink;
 use base_kit::{List, NoMemory, Text};
 use refine_partition::Partition;
+use shared_routes::SharedRoute;
 use srp_core::{Route, Srp};
 use std::alloc::Global;
 
@@ -55,8 +56,8 @@ pub fn names_of(alloc: Global, names: &[Text], routers: &[u32]) -> Result<List<T
     Ok(copies)
 }
 
-/// The route that a router starts with or holds.
-pub fn route_copy(
+// The route that a router starts with.
+fn route_copy(
     alloc: Global,
     routes: &[Option<Route>],
     router: u32,
@@ -65,6 +66,21 @@ pub fn route_copy(
 {
     match routes.get(router as usize) {
         Some(Some(route)) => Ok(Some(route.copy(alloc)?)),
+        Some(None) => Ok(None),
+        None => Ok(None),
+    }
+}
+
+/// The route that a router holds. Its path shares nothing yet.
+pub fn shared_copy(
+    alloc: Global,
+    routes: &[Option<Route>],
+    router: u32,
+) -> Result<Option<SharedRoute>, NoMemory>
+    ensures { IfOk result (λ route. route ≡ slice_index_or routes.now router None) }
+{
+    match routes.get(router as usize) {
+        Some(Some(route)) => Ok(Some(SharedRoute::from_route(alloc, route)?)),
         Some(None) => Ok(None),
         None => Ok(None),
     }

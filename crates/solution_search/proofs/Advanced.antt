@@ -74,7 +74,8 @@ module _ (P : Problem) (tied : Bool) (s : State) (known : IsState P tied s) wher
     };
   }
 
-all_known : (P : Problem) (tied tied' : Bool) → (tied' ≡ false → tied ≡ false) → (states : List State) → All (IsState P tied) states → All (IsState P tied') states
+all_known : (P : Problem) (tied tied' : Bool) → (tied' ≡ false → tied ≡ false) → (states : List State) → All (IsState P tied) states →
+    All (IsState P tied') states
 all_known P tied tied' kept states h = λ k d less. known_on P tied (slice_index_or states k d) (h k d less) tied' kept
 
 -- ---- no router is open
@@ -104,7 +105,8 @@ module _ (P : Problem) (good : IsProblem P) (board : Board) (rules : IsBoard P b
   pub solved_lighter : burden (left_over board Solved) < burden (cases_of board)
   solved_lighter = dropped_lighter (case_of (state_of board)) (pending_cases board)
 
-  pub dead_looked : (IsCase P (case_of (state_of board)) → (L : List (Option Route)) → IsWeaklyStable P L → ¬ Admits P (case_of (state_of board)) L) → (found : List (List (Option Route))) →
+  pub dead_looked : (IsCase P (case_of (state_of board)) → (L : List (Option Route)) → IsWeaklyStable P L → ¬ Admits P (case_of (state_of board)) L) →
+      (found : List (List (Option Route))) →
       IsSearched P found (cases_of board) (is_tied board) → Looked P found board Dead
   dead_looked never found searched = dead P good found (case_of (state_of board)) (pending_cases board) (is_tied board) searched never
 

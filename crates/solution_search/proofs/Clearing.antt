@@ -110,7 +110,8 @@ module _ (P : Problem) (good : IsProblem P) where
         nothing.none e h.route t.0 i imp h.may t.1 (passes_alike case u s t.0 t.2 (label_passes u s none lab))
 
   -- where nothing comes and the router is open, the case after the take admits the labels
-  pub clear_admits : (case : Case) (rules : IsCase P case) (u : ℕ) (d : Route) (opened : IsOpen P case u d) (without : Option ℕ) → NothingComes P case without u →
+  pub clear_admits : (case : Case) (rules : IsCase P case) (u : ℕ) (d : Route) (opened : IsOpen P case u d) (without : Option ℕ) →
+      NothingComes P case without u →
       LeavesOut P without u → (L : List (Option Route)) → IsMet P case u d L → Admits P case L → Admits P (taken case u d) L
   clear_admits case rules u d opened without nothing leaves L met admits =
       let own = own_label P good case rules u d opened L met admits in

@@ -55,7 +55,8 @@ means_of_best offer best = means_by (key_of_best offer) (key_of_best best) (comp
 key_told : (P : Problem) (best : Best) → best.lone ≡ chosen (is_lone_number P) (path_of best.route) → key_of_best best ≡ key_of P best.route
 key_told P best e = ap (key_with best.route) e
 
-pub means : (P : Problem) (offer best : Best) → offer.lone ≡ chosen (is_lone_number P) (path_of offer.route) → best.lone ≡ chosen (is_lone_number P) (path_of best.route) →
+pub means : (P : Problem) (offer best : Best) → offer.lone ≡ chosen (is_lone_number P) (path_of offer.route) →
+    best.lone ≡ chosen (is_lone_number P) (path_of best.route) →
     Means (key_of P offer.route) (key_of P best.route) (rank_of offer best)
 means P offer best e f = subst (λ (k : Key). Means (key_of P offer.route) k (rank_of offer best)) (key_told P best f)
     (subst (λ (k : Key). Means k (key_of_best best) (rank_of offer best)) (key_told P offer e) (means_of_best offer best))
@@ -68,7 +69,8 @@ not_less a b e f = absurd (cc)
 pub weakly_worse : (a b : Key) → compare_weak a b ≡ Greater → compare_keys a b ≢ Less
 weakly_worse a b e f =
     let s = split a b in
-    let g : compare_keys a b ≡ Greater = s ∙ ap (λ (o : Ordering). ordering_then o (ordering_then (slice_cmp nat_cmp a.comms b.comms) (slice_cmp nat_cmp a.lone b.lone))) e in
+    let g : compare_keys a b ≡ Greater = s ∙ ap (λ (o : Ordering). ordering_then o
+    (ordering_then (slice_cmp nat_cmp a.comms b.comms) (slice_cmp nat_cmp a.lone b.lone))) e in
     absurd (cc)
 
 -- what is beaten by none is not beaten by what beats it
@@ -217,7 +219,8 @@ holds_more P tied tied' IsMet route other h kept not same = record {
 }
 
 -- the same routes are met
-pub knows_by : (P : Problem) (A B : Route → Type 0) (known : Option Best) → ((c : Route) → A c → B c) → ((c : Route) → B c → A c) → KnowsBest P A known → KnowsBest P B known
+pub knows_by : (P : Problem) (A B : Route → Type 0) (known : Option Best) → ((c : Route) → A c → B c) → ((c : Route) → B c → A c) → KnowsBest P A known →
+    KnowsBest P B known
 knows_by P A B known there back k = record {
   none = λ e c m. k.none e c (back c m);
   some = λ best e. (let q = k.some best e in record {

@@ -258,7 +258,8 @@ module _ (P : Problem) (good : IsProblem P) where
           | inl old ↦ searched.stable L old
           | inr new ↦ elim (in_contains (case.labels ∷ []) L new) [ inl same ↦ subst (IsStable P) same solved_stable | inr nil ↦ absurd nil ]
         ];
-        distinct = λ i j first second less e f. two i j first second less e f (get_append found case.labels i first e) (get_append found case.labels j second f);
+        distinct = λ i j first second less e f. two i j first second less e f (get_append found case.labels i first e)
+            (get_append found case.labels j second f);
         new = λ L c m i. elim (Contains-append_cases found (case.labels ∷ []) L m) [
           | inl old ↦ searched.new L c old (tail_in case c cases i)
           | inr new ↦ elim (in_contains (case.labels ∷ []) L new) [
@@ -267,7 +268,12 @@ module _ (P : Problem) (good : IsProblem P) where
           ]
         ];
         all = λ L st. elim (searched.all L st) [
-          | inl member ↦ inl (record { member = member.member; inside = Contains-append_left found (case.labels ∷ []) member.member member.inside; keys = member.keys })
+          | inl member ↦ inl (record {
+            member = member.member;
+            inside = Contains-append_left found (case.labels ∷ []) member.member member.inside;
+            keys =
+                member.keys;
+          })
           | inr has ↦ elim (in_contains (case ∷ cases) has.case has.inside) [
             | inr there ↦ inr (record { case = has.case; inside = contains_in cases has.case there; admits = has.admits })
             | inl same ↦ inl (record {

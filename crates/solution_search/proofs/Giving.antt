@@ -55,7 +55,8 @@ offers_some P (Some route) (Some offer) best h e = (route, refl, (let same : off
 
 module _ (P : Problem) (good : IsProblem P) where
   -- the ends and the act of an edge that is listed
-  pub import_inside : (exporter : ℕ) (i : Import) (e : Edge) → Contains P.edges e → import_from exporter e ≡ Some i → (i.importer < count P) × (i.act < length P.acts)
+  pub import_inside : (exporter : ℕ) (i : Import) (e : Edge) → Contains P.edges e → import_from exporter e ≡ Some i →
+      (i.importer < count P) × (i.act < length P.acts)
   import_inside exporter i e at is =
       let parts = import_is exporter e i is in
       let rules = good.edges.inside e at in (
@@ -83,7 +84,8 @@ module _ (P : Problem) (good : IsProblem P) where
   }
 
   pub given_offer : (old new : Board) (router : ℕ) (i : Import) (offer : Best) (outcome : Outcome) (route : Route) → Fits (count P) old → i.importer < count P →
-      over P old.labels (edge_of router i) ≡ Some route → IsOfferOf P route offer → Adds P old new i.importer offer outcome → HasGiven P old new router i outcome
+      over P old.labels (edge_of router i) ≡ Some route → IsOfferOf P route offer → Adds P old new i.importer offer outcome →
+      HasGiven P old new router i outcome
   given_offer old new router i offer outcome route fits inside gives is_offer adds = record {
     goes = put_goes old new i.importer put within adds.labels adds.waits adds.put;
     fits = put_fits (count P) old new i.importer put fits inside adds.labels adds.waits adds.put
@@ -101,7 +103,8 @@ module _ (P : Problem) (good : IsProblem P) where
       within : i.importer < length old.bests.items
       within = let b = fits.bests in omega (arith, b, inside)
 
-      by : (o : Outcome) → outcome ≡ o → (before : List (Option Route)) (done : List Import) (edge : Edge) → Contains P.edges edge → import_from router edge ≡ Some i →
+      by : (o : Outcome) → outcome ≡ o → (before : List (Option Route)) (done : List Import) (edge : Edge) → Contains P.edges edge →
+          import_from router edge ≡ Some i →
           IsPart P (is_tied old) before router done (state_of old) → PartComesTo P (is_tied new) before router (done ++ i ∷ []) (state_of new) o
       by Fine e before done edge at is part =
           part_offer P good before router done i old new offer outcome route gives is_offer inside adds part e
@@ -185,7 +188,8 @@ module _ (P : Problem) (good : IsProblem P) where
   }
 
   -- the router takes its best offer and gives it to the others
-  pub settled : (old mid new : Board) (router : ℕ) (best : Best) (outcome : Outcome) → Fits (count P) old → router < count P → best_at old.bests.items router ≡ Some best →
+  pub settled : (old mid new : Board) (router : ℕ) (best : Best) (outcome : Outcome) → Fits (count P) old → router < count P →
+      best_at old.bests.items router ≡ Some best →
       label old.labels router ≡ None → Takes old mid router best → HasSpread P mid new router outcome → HasSettled P old new router best outcome
   settled old mid new router best outcome fits inside e empty t s = record {
     goes = goes_trans old mid new (taken_goes old mid router best (let l = fits.labels in omega (arith, l, inside)) e empty t) s.goes;

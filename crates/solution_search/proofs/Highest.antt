@@ -50,7 +50,8 @@ verdict_most : (h : ℕ) (entries : List PlainEntry) (comms cs : List ℕ) (lp :
     verdict entries comms ≡ Permit lp cs adds → unwrap_or lp 100 ≤ h
 verdict_most h [] comms cs lp adds all e = absurd (cc)
 verdict_most h (entry ∷ entries) comms cs lp adds all e =
-    first h entry entries comms cs lp adds all (entry_holds comms entry) (λ f. verdict_most h entries comms cs lp adds (All-tail (GivesAtMost h) entry entries all) f) e
+    first h entry entries comms cs lp adds all (entry_holds comms entry)
+    (λ f. verdict_most h entries comms cs lp adds (All-tail (GivesAtMost h) entry entries all) f) e
   where
     first : (h : ℕ) (entry : PlainEntry) (entries : List PlainEntry) (comms cs : List ℕ) (lp : Option ℕ) (adds : ℕ) → All (GivesAtMost h) (entry ∷ entries) →
         (b : Bool) → (verdict entries comms ≡ Permit lp cs adds → unwrap_or lp 100 ≤ h) →

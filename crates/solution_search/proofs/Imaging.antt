@@ -25,7 +25,8 @@ import_image out sends into from imported size is le = record { each = by }
         IsImageOf (record { preference = imported.lp; comms = imported.comms; size = size }) route
     by number (Bgp lp path comms) route one e =
         let s = arrives out sends into number lp path comms route e in
-        let there : import_by (Import out sends into) comms ≡ Some imported = subst (λ (c : List ℕ). import_by (Import out sends into) c ≡ Some imported) one.comms is in
+        let there : import_by (Import out sends into) comms ≡ Some imported =
+        subst (λ (c : List ℕ). import_by (Import out sends into) c ≡ Some imported) one.comms is in
         let same : s.imported ≡ imported = (let a = s.accepted in cc) in
         let p : preference_of route ≡ imported.lp = ap preference_of s.is ∙ ap (λ (i : Imported). i.lp) same in
         let c : comms_of route ≡ imported.comms = ap comms_of s.is ∙ ap (λ (i : Imported). i.comms) same in

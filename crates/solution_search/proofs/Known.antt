@@ -99,13 +99,15 @@ falls_by P tie w other route rank.Worse m upset = absurd (cc)
 falls_by P tie w other route (rank.TiedWorse by) m upset = absurd (cc)
 
 module _ (P : Problem) (IsMet : ℕ → Route → Type 0) (old new : Board) (router : ℕ) (offer : Best) (outcome : Outcome)
-    (knows : Knows P (is_tied old) IsMet (state_of old)) (inside : router < count P) (fresh : IsFresh P offer) (adds : Adds P old new router offer outcome) where
+    (knows : Knows P (is_tied old) IsMet (state_of old)) (inside : router < count P) (fresh : IsFresh P offer)
+    (adds : Adds P old new router offer outcome) where
   -- the router is settled: how the offer compares with its label
   settled_means : (r : Route) → label old.labels router ≡ Some r → Means (key_of P offer.route) (key_of P r) (rank_at P (label old.labels router) offer)
   settled_means r e = subst (λ (o : Option Route). Means (key_of P offer.route) (key_of P r) (rank_at P o offer)) (sym e)
       (means P offer (fresh_of P r) fresh.lone refl)
 
-  pub added_beaten : outcome ≡ Upset → (r : Route) → label old.labels router ≡ Some r → IsCandidate P new.labels router offer.route → IsBeaten P (is_tied new) new.labels
+  pub added_beaten : outcome ≡ Upset → (r : Route) → label old.labels router ≡ Some r → IsCandidate P new.labels router offer.route →
+      IsBeaten P (is_tied new) new.labels
   added_beaten upset r e candidate =
       let rank = rank_at P (label old.labels router) offer in
       let f = falls_by P old.tie router offer.route r rank (settled_means r e) (sym adds.is_outcome ∙ upset) in
@@ -178,7 +180,8 @@ module _ (P : Problem) (IsMet : ℕ → Route → Type 0) (old new : Board) (rou
       closed : (u : ℕ) (r : Route) → label old.labels u ≡ Some r → HoldsBest P (is_tied new) (MoreAt IsMet router offer.route u) r
       closed u r e = elim (cases_eq u router) [
         | inr differ ↦
-            holds_by P (is_tied old) (is_tied new) (IsMet u) (MoreAt IsMet router offer.route u) r (λ c m. inl m) (elsewhere u differ) kept (knows.settled u r e)
+            holds_by P (is_tied old) (is_tied new) (IsMet u) (MoreAt IsMet router offer.route u) r (λ c m. inl m) (elsewhere u differ) kept
+            (knows.settled u r e)
         | inl same ↦
             let f : label old.labels router ≡ Some r = subst (λ (v : ℕ). label old.labels v ≡ Some r) same e in
             let rank = rank_at P (label old.labels router) offer in

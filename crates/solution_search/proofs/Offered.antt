@@ -34,7 +34,10 @@ best_of : (P : Problem) (k : Candidate) (all : List Candidate) → BestOf P (k �
 best_of P k [] = record {
   member = k;
   inside = inl refl;
-  best = λ d i. elim i [ inl same ↦ irreflexive (key_of P d.route) (key_of P k.route) (ap (λ (x : Candidate). key_of P x.route) (sym same)) | inr nil ↦ absurd nil ];
+  best = λ d i. elim i [
+    | inl same ↦ irreflexive (key_of P d.route) (key_of P k.route) (ap (λ (x : Candidate). key_of P x.route) (sym same))
+    | inr nil ↦ absurd nil
+  ];
 }
 best_of P k (next ∷ all) =
     let b = best_of P next all in

@@ -31,12 +31,14 @@ record Parts (label : Option Route) (awaited : Option ℕ) (known : Option Best)
   above : IsAbove awaited (preference_of best.route)
   sized : size_of best.route ≡ size
 
-parts_by : (label : Option Route) (awaited : Option ℕ) (known : Option Best) (size : ℕ) → open_size_by label awaited known ≡ Some size → Parts label awaited known size
+parts_by : (label : Option Route) (awaited : Option ℕ) (known : Option Best) (size : ℕ) → open_size_by label awaited known ≡ Some size →
+    Parts label awaited known size
 parts_by (Some r) awaited known size e = absurd (cc)
 parts_by None awaited None size e = absurd (cc)
 parts_by None awaited (Some best) size e = by (is_above awaited (preference_of best.route)) refl e
   where
-    by : (b : Bool) → is_above awaited (preference_of best.route) ≡ b → cond b (Some (size_of best.route)) None ≡ Some size → Parts None awaited (Some best) size
+    by : (b : Bool) → is_above awaited (preference_of best.route) ≡ b → cond b (Some (size_of best.route)) None ≡ Some size →
+        Parts None awaited (Some best) size
     by false t f = absurd (cc)
     by true t f = record {
       unsettled = refl;
@@ -46,7 +48,8 @@ parts_by None awaited (Some best) size e = by (is_above awaited (preference_of b
       sized = (let s : size_of best.route ≡ size = cc in s);
     }
 
-open_by : (label : Option Route) (awaited : Option ℕ) (known : Option Best) (best : Best) → label ≡ None → known ≡ Some best → IsAbove awaited (preference_of best.route) →
+open_by : (label : Option Route) (awaited : Option ℕ) (known : Option Best) (best : Best) → label ≡ None → known ≡ Some best →
+    IsAbove awaited (preference_of best.route) →
     open_size_by label awaited known ≡ Some (size_of best.route)
 open_by label awaited known best e k a =
     ap (λ (o : Option Route). open_size_by o awaited known) e ∙ ap (open_size_by None awaited) k
@@ -79,7 +82,8 @@ pub record Next (P : Problem) (state : State) (u : ℕ) : Type 0 where
 
 module _ (P : Problem) (good : IsProblem P) (tied : Bool) (state : State) (known : IsState P tied state) where
   -- a router without a label, and an offer
-  offer_known : (u : ℕ) (c : Route) → IsOffer P (case_of state) u c → (best : Best) × (best_at state.bests u ≡ Some best) × IsBestOf P (IsCandidate P state.labels u) best
+  offer_known : (u : ℕ) (c : Route) → IsOffer P (case_of state) u c →
+      (best : Best) × (best_at state.bests u ≡ Some best) × IsBestOf P (IsCandidate P state.labels u) best
   offer_known u c offer = by (best_at state.bests u) refl
     where
       k : KnowsBest P (IsCandidate P state.labels u) (best_at state.bests u)
@@ -197,5 +201,6 @@ module _ (P : Problem) (good : IsProblem P) (tied : Bool) (state : State) (known
   none_offered none u c offer =
       let k = offer_known u c offer in
       let f = none.none u (candidate_in P good state.labels u c offer.candidate) in
-      let g : is_offered state u ≡ true = ap (λ (l : Option Route). is_none l && is_some (best_at state.bests u)) offer.unsettled ∙ ap (λ (o : Option Best). is_some o) k.1 in
+      let g : is_offered state u ≡ true = ap (λ (l : Option Route). is_none l && is_some (best_at state.bests u)) offer.unsettled
+      ∙ ap (λ (o : Option Best). is_some o) k.1 in
       absurd (cc)

@@ -208,6 +208,7 @@ module _ (P : Problem) (good : IsProblem P) where
   nothing_foreseen case without table foresees router each = record {
     none = λ e from r i imp may st passes.
         (let f = foresees.all e.exporter from may in
-        (all_in (GivesNothing P case e) (foreseen_at table e.exporter) f.foreseen (each e i imp (may_unsettled P case without e.exporter from may)) f.inside).none
+        (all_in (GivesNothing P case e) (foreseen_at table e.exporter) f.foreseen
+        (each e i imp (may_unsettled P case without e.exporter from may)) f.inside).none
         from r f.is_one st (subst (λ v. Passes P case v r) (sym imp) passes));
   }

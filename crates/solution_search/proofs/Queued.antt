@@ -54,7 +54,8 @@ nothing_listed (turn ∷ turns) size router e l = absurd (cc)
 
 -- ---- the queue of a state
 
-by_parts : (s t : State) (u : ℕ) → label t.labels u ≡ label s.labels u → t.waits ≡ s.waits → best_at t.bests u ≡ best_at s.bests u → open_size t u ≡ open_size s u
+by_parts : (s t : State) (u : ℕ) → label t.labels u ≡ label s.labels u → t.waits ≡ s.waits → best_at t.bests u ≡ best_at s.bests u →
+    open_size t u ≡ open_size s u
 unfolding open_size
 by_parts s t u l w b = ap (λ (o : Option Route). open_size_by o (slice_index_or t.waits u None) (best_at t.bests u)) l
     ∙ ap (λ (o : List (Option ℕ)). open_size_by (label s.labels u) (slice_index_or o u None) (best_at t.bests u)) w
@@ -71,7 +72,8 @@ open_inside s u size e = elim (cases_lt u (length s.bests)) [
   | inl h ↦ h
   | inr h ↦
       let none : best_at s.bests u ≡ None = get_or_past s.bests u None h in
-      let closed = ap (λ (o : Option Best). open_size_by (label s.labels u) (slice_index_or s.waits u None) o) none ∙ no_best (label s.labels u) (slice_index_or s.waits u None) in
+      let closed = ap (λ (o : Option Best). open_size_by (label s.labels u) (slice_index_or s.waits u None) o) none
+      ∙ no_best (label s.labels u) (slice_index_or s.waits u None) in
       absurd (cc)
 ]
 
@@ -125,7 +127,8 @@ put_queued s bests router best turns others inside put kept listed q = record {
     t : State
     t = record { labels = s.labels; waits = s.waits; bests = bests }
 
-pub taken_queued : (old new : Board) (router : ℕ) (route : Route) (turns : Turns) → router < length old.labels → new.labels ≡ set old.labels router (Some route) →
+pub taken_queued : (old new : Board) (router : ℕ) (route : Route) (turns : Turns) → router < length old.labels →
+    new.labels ≡ set old.labels router (Some route) →
     new.waits.items ≡ old.waits.items → new.bests.items ≡ set old.bests.items router None → KeepsQueued old turns new turns
 taken_queued old new router route turns inside labels waits bests = λ q. record {
   all = λ u size e.

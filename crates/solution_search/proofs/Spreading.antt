@@ -33,7 +33,8 @@ none_in : {X : Type 0} (x : X) → Contains [] x → ⊥
 none_in x h = let l = h.1 in omega arith
 
 -- the same routes are met
-pub known_by : (P : Problem) (tied tied' : Bool) (A B : ℕ → Route → Type 0) (state : State) → ((u : ℕ) (c : Route) → A u c → B u c) → ((u : ℕ) (c : Route) → B u c → A u c) →
+pub known_by : (P : Problem) (tied tied' : Bool) (A B : ℕ → Route → Type 0) (state : State) → ((u : ℕ) (c : Route) → A u c → B u c) →
+    ((u : ℕ) (c : Route) → B u c → A u c) →
     (tied' ≡ false → tied ≡ false) → Knows P tied A state → Knows P tied' B state
 known_by P tied tied' A B state there back kept k = record {
   fitting = k.fitting;
@@ -59,7 +60,8 @@ pub import_of_edge : (exporter : ℕ) (e : Edge) → e.exporter ≡ exporter →
 import_of_edge exporter e same = ap (λ (b : Bool). cond b (Some (record { importer = e.importer; act = e.act })) None) (eq-eqb e.exporter exporter same)
 
 -- what such an edge gives is a candidate
-real_candidate : (P : Problem) (L : List (Option Route)) (exporter : ℕ) (i : Import) (e : Edge) → Contains P.edges e → import_from exporter e ≡ Some i → (c : Route) →
+real_candidate : (P : Problem) (L : List (Option Route)) (exporter : ℕ) (i : Import) (e : Edge) → Contains P.edges e → import_from exporter e ≡ Some i →
+    (c : Route) →
     over P L (edge_of exporter i) ≡ Some c → IsCandidate P L i.importer c
 real_candidate P L exporter i e at is c gives =
     let parts = import_is exporter e i is in

@@ -98,7 +98,8 @@ module _ (P : Problem) (good : IsProblem P) (old : Board) (rules : IsBoard P old
           at_mid changes e = pending_kept mid new step.goes ∙ ap (λ (l : List Change). pending l (state_of mid)) e ∙ ap (pending changes) forked.state
 
           by : ((mid.changes.items ≡ old.changes.items) × TakesAtOnce P before router (preference_of next.best.route))
-              ⊎ (mid.changes.items ≡ old.changes.items ++ Fork (record { router = router; preference = preference_of next.best.route }) ∷ []) → PutOff P old new router next.best
+              ⊎ (mid.changes.items ≡ old.changes.items ++ Fork (record { router = router; preference = preference_of next.best.route }) ∷ []) →
+              PutOff P old new router next.best
           by (inl same) = nothing_more (at_mid old.changes.items same.0) (leads same.1)
           by (inr more) = one_more
               (at_mid (old.changes.items ++ Fork (record { router = router; preference = preference_of next.best.route }) ∷ []) more

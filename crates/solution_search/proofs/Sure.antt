@@ -23,7 +23,8 @@ edge_inside P good edges same place d h =
 
 -- one edge more gives nothing better
 pub sure_more : (labels : List (Option Route)) (highest : List ℕ) (edges : List Edge) (first place preference : ℕ) (here : Option Route) (e : Edge) →
-    ((k : ℕ) (d : Edge) → first ≤ k → k < place → label labels (get_or edges k d).exporter ≡ None → slice_index_or highest (get_or edges k d).act 0 ≤ preference) →
+    ((k : ℕ) (d : Edge) → first ≤ k → k < place → label labels (get_or edges k d).exporter ≡ None →
+    slice_index_or highest (get_or edges k d).act 0 ≤ preference) →
     place < length edges → here ≡ get_or labels (get_or edges place e).exporter here → (get_or edges place e).exporter < length labels →
     (here ≡ None → slice_index_or highest (get_or edges place e).act 0 ≤ preference) → (k : ℕ) (d : Edge) → first ≤ k → k < place + 1 →
     label labels (get_or edges k d).exporter ≡ None → slice_index_or highest (get_or edges k d).act 0 ≤ preference
@@ -41,7 +42,8 @@ sure_more labels highest edges first place preference here e before inside is wi
 pub sure_at_end : (P : Problem) → IsProblem P → (case : Case) (highest : List ℕ) →
     ((i : ℕ) → i < length P.acts → IsHighest (slice_index_or P.acts i (Cost 0)) (slice_index_or highest i 0)) → (edges : List Edge) → edges ≡ P.edges →
     (router preference first end place : ℕ) → AreOwnEdges edges router first end →
-    ((k : ℕ) (d : Edge) → first ≤ k → k < place → label case.labels (get_or edges k d).exporter ≡ None → slice_index_or highest (get_or edges k d).act 0 ≤ preference) →
+    ((k : ℕ) (d : Edge) → first ≤ k → k < place → label case.labels (get_or edges k d).exporter ≡ None →
+    slice_index_or highest (get_or edges k d).act 0 ≤ preference) →
     end ≤ place → IsSure P case router preference
 sure_at_end P good case highest most edges same router preference first end place own all far = record {
   not_above = λ e from route i imp empty fit s.

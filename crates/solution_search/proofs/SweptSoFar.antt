@@ -14,7 +14,8 @@ abbrev pub SoFar : Problem → Board → Board → Option Look → Type 0
 SoFar P old new None = new ≡ old
 SoFar P old new (Some look) = (look ≡ Settled) × SearchSteps P old new Settled
 
-pub so_far_more : (P : Problem) (old mid new : Board) (swept : Option Look) (look : Look) → SoFar P old mid swept → SearchSteps P mid new look → SearchSteps P old new look
+pub so_far_more : (P : Problem) (old mid new : Board) (swept : Option Look) (look : Look) → SoFar P old mid swept → SearchSteps P mid new look →
+    SearchSteps P old new look
 so_far_more P old mid new None look same step = subst (λ (b : Board). SearchSteps P b new look) same step
 so_far_more P old mid new (Some first) look so_far step = steps_twice P old mid new look so_far.1 step
 

@@ -39,7 +39,8 @@ module _ (P : Problem) (good : IsProblem P) (old : Board) (left : IsPutOff P old
       pending = All-tail (IsState P (is_tied new)) (state_of new) (pending_of new) known;
     }
 
-    pub back_searched : (found : List (List (Option Route))) → IsSearched P found (pending_cases old) (is_tied old) → IsSearched P found (cases_of new) (is_tied new)
+    pub back_searched : (found : List (List (Option Route))) → IsSearched P found (pending_cases old) (is_tied old) →
+        IsSearched P found (cases_of new) (is_tied new)
     back_searched found searched = subst (λ (b : Bool). IsSearched P found (cases_of new) b) tied
         (subst (λ (l : List Case). IsSearched P found l (is_tied old)) cases searched)
 
@@ -59,12 +60,14 @@ module _ (P : Problem) (good : IsProblem P) (old : Board) (left : IsPutOff P old
       (subst (λ (l : List Case). IsSearched P found l (is_tied old)) (ap (λ (l : List State). map case_of l) none) searched))
 
   -- the visitor has seen enough
-  pub stops : (found : List (List (Option Route))) (wants : Bool) → wants ≡ false → IsSearched P found (pending_cases old) (is_tied old) → EndsWith P found wants Stopped
+  pub stops : (found : List (List (Option Route))) (wants : Bool) → wants ≡ false → IsSearched P found (pending_cases old) (is_tied old) →
+      EndsWith P found wants Stopped
   stops found wants enough searched = (searched.stable, enough)
 
 -- ---- what follows of a look
 
-module _ (P : Problem) (good : IsProblem P) (old mid : Board) (look : Look) (left : IsLeft P mid look) (lighter : burden (left_over mid look) < burden (cases_of old))
+module _ (P : Problem) (good : IsProblem P) (old mid : Board) (look : Look) (left : IsLeft P mid look)
+    (lighter : burden (left_over mid look) < burden (cases_of old))
     (looked : (found : List (List (Option Route))) → IsSearched P found (cases_of old) (is_tied old) → Looked P found mid look) where
   -- a router was settled
   pub settled_board : look ≡ Settled → IsBoard P mid
@@ -73,7 +76,8 @@ module _ (P : Problem) (good : IsProblem P) (old mid : Board) (look : Look) (lef
   pub settled_lighter : look ≡ Settled → burden (cases_of mid) < burden (cases_of old)
   settled_lighter e = subst (λ (x : Look). burden (left_over mid x) < burden (cases_of old)) e lighter
 
-  pub settled_searched : look ≡ Settled → (found : List (List (Option Route))) → IsSearched P found (cases_of old) (is_tied old) → IsSearched P found (cases_of mid) (is_tied mid)
+  pub settled_searched : look ≡ Settled → (found : List (List (Option Route))) → IsSearched P found (cases_of old) (is_tied old) →
+      IsSearched P found (cases_of mid) (is_tied mid)
   settled_searched e found searched = subst (Looked P found mid) e (looked found searched)
 
   -- the case is dead
@@ -83,7 +87,8 @@ module _ (P : Problem) (good : IsProblem P) (old mid : Board) (look : Look) (lef
   pub dead_lighter : look ≡ Dead → burden (pending_cases mid) < burden (cases_of old)
   dead_lighter e = subst (λ (x : Look). burden (left_over mid x) < burden (cases_of old)) e lighter
 
-  pub dead_searched : look ≡ Dead → (found : List (List (Option Route))) → IsSearched P found (cases_of old) (is_tied old) → IsSearched P found (pending_cases mid) (is_tied mid)
+  pub dead_searched : look ≡ Dead → (found : List (List (Option Route))) → IsSearched P found (cases_of old) (is_tied old) →
+      IsSearched P found (pending_cases mid) (is_tied mid)
   dead_searched e found searched = subst (Looked P found mid) e (looked found searched)
 
   -- it has a solution

@@ -38,7 +38,8 @@ pub import_are_longer : (out : Plain) (sends : Bool) (into : Plain) (lp : ℕ) (
     AreLonger (Import out sends into) (Bgp lp path comms) size
 import_are_longer out sends into lp path comms size h = record { longer = import_longer out sends into lp path comms size h }
 
-cost_longer : (cost other size : ℕ) → size < cost + other → (number : ℕ) (route : Route) → step_by (Cost cost) number (Ospf other) ≡ Some route → size < size_of route
+cost_longer : (cost other size : ℕ) → size < cost + other → (number : ℕ) (route : Route) → step_by (Cost cost) number (Ospf other) ≡ Some route →
+    size < size_of route
 unfolding step_by
 cost_longer cost other size h number route e = by (nat_lt 4294967295 (cost + other)) e
   where
@@ -63,7 +64,8 @@ lower_are_worse act highest from other top h = record {
   worse = λ number route a b e. (let most = top.most number from route e in less_preferred (key_with route a) (key_with other b) (omega (arith, most, h)));
 }
 
-pub longer_are_worse : (act : Act) (highest : ℕ) (from other : Route) → IsHighest act highest → highest ≡ preference_of other → AreLonger act from (size_of other) →
+pub longer_are_worse : (act : Act) (highest : ℕ) (from other : Route) → IsHighest act highest → highest ≡ preference_of other →
+    AreLonger act from (size_of other) →
     AreWorse act from other
 longer_are_worse act highest from other top same longer = record {
   worse = λ number route a b e. (

@@ -41,7 +41,7 @@ rank_of offer best = rank_over offer best.route best.lone
 abbrev pub with_tie : Best → Difference → Best
 with_tie best difference = record { route = best.route; lone = best.lone; tied = Some difference }
 
--- whether a difference is told already: one of communities tells both
+-- whether a difference is reported already: one of communities covers both
 abbrev pub told : Option Difference → Difference → Bool
 told None by = false
 told (Some Communities) by = true
@@ -65,14 +65,14 @@ replaced rank.Worse best offer = None
 abbrev pub fresh_of : Problem → Route → Best
 fresh_of problem route = record { route = route; lone = chosen (is_lone_number problem) (path_of route); tied = None }
 
--- the lone numbers on the path are told right, and no tie is told
+-- the lone numbers on the path are right, and no tie is reported
 pub record IsFresh (problem : Problem) (offer : Best) : Type 0 where
   pub lone : offer.lone ≡ chosen (is_lone_number problem) (path_of offer.route)
   pub untied : offer.tied ≡ None
 
 -- ---- what is known of some routes
 
--- Of the routes that are met this one is held, and none beats it. Where no tie is told, those of its
+-- Of the routes that are met this one is held, and none beats it. Where no tie is reported, those of its
 -- preference and size have its key.
 pub record IsBestOf (problem : Problem) (IsMet : Route → Type 0) (best : Best) : Type 0 where
   pub held : IsMet best.route
@@ -86,7 +86,7 @@ pub record KnowsBest (problem : Problem) (IsMet : Route → Type 0) (known : Opt
   pub none : known ≡ None → (c : Route) → ¬ IsMet c
   pub some : (best : Best) → known ≡ Some best → IsBestOf problem IsMet best
 
--- the label is met, and none beats it; where no tie is told, those of its preference and size have its key
+-- the label is met, and none beats it; where no tie is reported, those of its preference and size have its key
 pub record HoldsBest (problem : Problem) (tied : Bool) (IsMet : Route → Type 0) (route : Route) : Type 0 where
   pub held : IsMet route
   pub unbeaten : (c : Route) → IsMet c → compare_keys (key_of problem c) (key_of problem route) ≢ Less

@@ -77,7 +77,7 @@ pub(crate) fn rank_over(offer: &Best, route: &SharedRoute, lone: &NumSet) -> Ran
     }
 }
 
-/// Whether a difference is told already. One of communities tells both.
+/// Whether a difference is reported already. One of communities covers both.
 pub(crate) fn is_told(known: Option<Difference>, by: Difference) -> bool
     ensures { result ≡ told known by }
 {

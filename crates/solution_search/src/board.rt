@@ -101,7 +101,7 @@ fn difference_of(tie: Option<Tie>) -> Option<Difference>
     }
 }
 
-/// Notes a tie, unless one is noted that tells as much.
+/// Notes a tie, unless one is noted that says as much.
 pub(crate) fn note_tie(board: &mut Board, router: u32, by: Difference)
     ensures tie { board.new.tie ≡ noted_tie board.old.tie router by }
     ensures same { board.new ≡ record board.old { tie = board.new.tie } }

@@ -1,18 +1,17 @@
 //! What the search looks up in a problem.
 
-ghost use Rattle.std.specs.Prelude.{◌≡◌, ℕ, ◌<◌, ◌≤◌, List, Option, All, IfOk, length, true, nat_lt, nat_le, slice_index_or};
+ghost use Rattle.std.specs.Prelude.{◌≡◌, ℕ, ◌<◌, ◌≤◌, List, Option, All, IfOk, length, true, slice_index_or};
 ghost use Rattle.srp_core.specs.declared.route.Act.TheVariants.{Cost as a_cost};
-ghost use Rattle.srp_core.specs.Candidates.{AreOwnEdges};
-ghost use Rattle.srp_core.specs.Problem.{count, AreOrdered};
+ghost use Rattle.srp_core.specs.Problem.{count};
 ghost use Rattle.solution_search.specs.Cases.{IsSure};
 ghost use Rattle.solution_search.specs.Lookups.{GivesAtMost, IsHighest};
 
-use base_kit::{Edge, NoMemory};
+use base_kit::NoMemory;
 use refine_partition::{Exports, exports_of};
 use route_keys::{LoneNumbers, lone_numbers};
 use route_maps::Plain;
 use shared_routes::SharedLabels;
-use srp_core::{Act, Srp};
+use srp_core::{Act, Srp, own_edges};
 use std::alloc::Global;
 use std::marker::Model;
 
@@ -87,24 +86,6 @@ pub(crate) fn lookups_of(alloc: Global, srp: &Srp) -> Result<Lookups<'_>, NoMemo
         exports,
         highest,
     })
-}
-
-/// The edges of a router, which stand together: the place of the first, and that behind the last.
-pub(crate) fn own_edges(edges: &[Edge], router: u32) -> (usize, usize)
-    requires { AreOrdered edges.now }
-    ensures { AreOwnEdges edges.now router result.0 result.1 }
-{
-    let first = edges.partition_point(
-        |edge: &Edge| -> bool
-            ensures { result ≡ nat_lt edge.now.importer router }
-        { edge.importer < router },
-    );
-    let end = edges.partition_point(
-        |edge: &Edge| -> bool
-            ensures { result ≡ nat_le edge.now.importer router }
-        { edge.importer <= router },
-    );
-    (first, end)
 }
 
 /// Whether no edge from a router without a label can give this router a route of a higher preference.

@@ -32,7 +32,7 @@ use std::alloc::Global;
 /// How a search ended.
 #[derive(Clone, Copy, Debug, PartialEq, Eq)]
 pub enum Ending {
-    /// The visitor has seen all solutions. A tie is told if one was met.
+    /// The visitor has seen all solutions. A tie is reported if one was met.
     All { tie: Option<Tie> },
     /// The visitor wanted no more.
     Stopped,

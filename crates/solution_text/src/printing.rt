@@ -9,6 +9,7 @@ ghost use Rattle.solution_text.specs.Printed.{piece_word, run_words, path_words,
 
 use base_kit::{List, NoMemory, NumSet, Text};
 use printed_words::put_communities;
+use shared_routes::{SharedLabels, SharedRoute};
 use srp_core::{Labels, Route};
 use std::alloc::{AllocError, Global};
 use std::fmt::Write;
@@ -116,4 +117,59 @@ pub fn print_labels(alloc: Global, labels: &Labels, names: &List<Text>) -> Resul
     let mut text = String::new(alloc);
     put_lines(&mut text, names.as_slice(), labels.as_slice())?;
     Ok(text.into_bytes())
+}
+
+// ---- labels whose paths share their tails
+
+fn plain_label(alloc: Global, label: &Option<SharedRoute>) -> Result<Option<Route>, NoMemory>
+    ensures { IfOk result (λ plain. plain ≡ label.now) }
+{
+    match label {
+        None => Ok(None),
+        Some(route) => Ok(Some(route.plain(alloc)?)),
+    }
+}
+
+fn put_shared_line(
+    alloc: Global,
+    text: &mut String,
+    name: &Text,
+    label: &Option<SharedRoute>,
+) -> Result<(), NoMemory>
+    ensures { OnOk result (string_bytes text.new ≡ string_bytes text.old ++ line_text (label_line (name.now, label.now))) }
+{
+    let plain = plain_label(alloc, label)?;
+    put_line(text, name, &plain)?;
+    Ok(())
+}
+
+fn put_shared_lines(
+    alloc: Global,
+    text: &mut String,
+    names: &[Text],
+    labels: &[Option<SharedRoute>],
+) -> Result<(), NoMemory>
+    requires { length labels.now ≡ length names.now }
+    ensures { OnOk result (string_bytes text.new ≡ string_bytes text.old ++ labels_text names.now labels.now) }
+{
+    for i in 0..names.len() {
+        put_shared_line(alloc, text, &names[i], &labels[i])?;
+    }
+    Ok(())
+}
+
+/// The text with that of labels behind it, as `print_labels` writes it. Of the paths, which share their
+/// tails, only one at a time is copied. If memory runs out, the text is dropped.
+pub fn text_with_labels(
+    alloc: Global,
+    text: String,
+    labels: &SharedLabels,
+    names: &List<Text>,
+) -> Result<String, NoMemory>
+    requires { length labels.now ≡ length names.now }
+    ensures { IfOk result (λ longer. string_bytes longer ≡ string_bytes text ++ labels_text names.now labels.now) }
+{
+    let mut longer = text;
+    put_shared_lines(alloc, &mut longer, names.as_slice(), labels.as_slice())?;
+    Ok(longer)
 }

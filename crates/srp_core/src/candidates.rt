@@ -74,8 +74,9 @@ fn without_loop(route: Option<Route>, own: u32) -> Option<Route>
     }
 }
 
-// The edges of a router, which stand together: the place of the first, and that behind the last.
-fn own_edges(edges: &[Edge], router: u32) -> (usize, usize)
+/// The edges of a router, which stand together: the place of the first, and that behind the last. The
+/// edges ascend by their importer, as those of `Srp::edges` do.
+pub fn own_edges(edges: &[Edge], router: u32) -> (usize, usize)
     requires { AreOrdered edges.now }
     ensures { AreOwnEdges edges.now router result.0 result.1 }
 {

@@ -17,6 +17,7 @@ mod route;
 mod srp;
 mod starts;
 
+pub use candidates::own_edges;
 pub use copies::{acts_copy, names_copy};
 pub use labels::Labels;
 pub use route::{Act, Candidate, Route};

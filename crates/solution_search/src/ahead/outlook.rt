@@ -12,9 +12,10 @@ use crate::ahead::foreseen::{Foreseen, foreseen_of, is_among};
 use crate::ahead::growing::{table_of, takes_part};
 use crate::ahead::images::{image_of, may_pass};
 use crate::board::Board;
-use crate::lookups::{Lookups, own_edges};
+use crate::lookups::Lookups;
 use base_kit::{Edge, List, NoMemory};
 use shared_routes::SharedRoute;
+use srp_core::own_edges;
 
 /// For each router that takes part all that it may hold.
 #[derive(Drop)]

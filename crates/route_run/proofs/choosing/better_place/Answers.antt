@@ -1,7 +1,6 @@
-use Rattle.std.proofs.Common.{◌≡◌, nat_eq, sym, ap, ◌∙◌, get_or, true, false}
+use Rattle.std.proofs.Common.{◌≡◌, nat_eq, sym, ◌∙◌, true, false}
 use Rattle.std.specs.HashSet.{contains}
 use Rattle.std.proofs.lemmas.List.MinMax.{IsFirstBest-takes, IsFirstBest-keeps}
-use Rattle.srp_core.specs.declared.route.Candidate.{Candidate}
 use Rattle.route_run.specs.Choices.{is_better}
 use Rattle.route_run.proofs.Routes.{candidates_rank}
 use Rattle.route_run.proofs.choosing.better_place.Goals as goal
@@ -12,8 +11,7 @@ returns-then-branch c =
     let all = c.args.candidates.now in
     let x = c.index-candidates-place.result in
     let y = c.index-candidates-best.result in
-    let over : is_better test x y ≡ true = ap (λ (z : Candidate). is_better test z y) c.index-candidates-place.is
-    ∙ ap (λ (z : Candidate). is_better test (get_or all c.args.place x) z) c.index-candidates-best.is ∙ sym c.in_ok-beats.ensures ∙ c.if-branch.true in
+    let over : is_better test x y ≡ true = sym c.in_ok-is_better.ensures ∙ c.if-branch.true in
     IsFirstBest-takes (candidates_rank test) all c.args.place c.args.best x y c.requires.best c.requires.place c.index-candidates-place.is
     c.index-candidates-best.is over
 
@@ -23,7 +21,6 @@ returns-else-branch c =
     let all = c.args.candidates.now in
     let x = c.index-candidates-place.result in
     let y = c.index-candidates-best.result in
-    let below : is_better test x y ≡ false = ap (λ (z : Candidate). is_better test z y) c.index-candidates-place.is
-    ∙ ap (λ (z : Candidate). is_better test (get_or all c.args.place x) z) c.index-candidates-best.is ∙ sym c.in_ok-beats.ensures ∙ c.if-branch.false in
+    let below : is_better test x y ≡ false = sym c.in_ok-is_better.ensures ∙ c.if-branch.false in
     IsFirstBest-keeps (candidates_rank test) all c.args.place c.args.best x y c.requires.best c.requires.place c.index-candidates-place.is
     c.index-candidates-best.is below

@@ -4,7 +4,7 @@ use Rattle.srp_core.specs.Stability.{label}
 use Rattle.route_run.specs.declared.choosing.Choice.{Choice}
 use Rattle.route_run.specs.Activations.{chosen_label}
 use Rattle.route_run.specs.Choices.{IsChoice}
-use Rattle.route_run.specs.Rests.{is_marked}
+use Rattle.route_run.specs.Rests.{is_at_rest}
 use Rattle.route_run.proofs.AtRest.{kept_same}
 use Rattle.route_run.proofs.resting.activate_once.Goals as goal
 
@@ -17,7 +17,7 @@ returns-then-index-clause-labels c =
     let total = c.requires.state.total in
     let router = c.requires.router in
     let inside : c.args.router < length marks = omega (arith, total, router) in
-    let marked : is_marked marks c.args.router ≡ true = sym (get_or_default marks c.args.router c.index.result.now false inside) ∙ sym c.index.ensures
+    let marked : is_at_rest marks c.args.router ≡ true = sym (get_or_default marks c.args.router c.index.result.now false inside) ∙ sym c.index.ensures
     ∙ c.if-index.true in
     sym (kept_same c.args.runner.now c.args.state.now.labels c.args.router (c.requires.state.rest c.args.router marked))
 

@@ -1,4 +1,4 @@
-use Rattle.std.proofs.Common.{◌<◌, ◌^◌, ℕ, List, length, sym, subst}
+use Rattle.std.proofs.Common.{◌≡◌, ◌<◌, ◌^◌, ℕ, List, length, sym, subst}
 use Rattle.abstract_net.specs.declared.qlink.QLink.{QLink}
 use Rattle.base_kit.specs.Partition.{IsNumbered}
 use Rattle.srp_core.specs.Problem.{Problem}
@@ -22,10 +22,11 @@ fold_into-requires-clause-quotient c =
 
 pub returns : goal.returns
 returns c =
-    ok_as (IsFolding c.args.srp.now c.in_ok-small.small c.args.p.now c.args.labels.now)
+    ok_as (λ lower. lower ≡ c.in_ok-lower.lower)
     (λ lower. (groups : ℕ) → IsNumbered c.args.p.now groups → IsFolding c.args.srp.now (small_of c.args.srp.now c.args.p.now groups) c.args.p.now
     c.args.labels.now lower)
-    c.fold_into.result
-    (λ lower is groups numbered. subst (λ (P : Problem). IsFolding c.args.srp.now P c.args.p.now c.args.labels.now lower)
-    (c.in_ok-small.ensures groups numbered) is)
-    c.fold_into.ensures
+    c.plain.result
+    (λ lower same groups numbered. subst (λ (P : Problem). IsFolding c.args.srp.now P c.args.p.now c.args.labels.now lower)
+    (c.in_ok-small.ensures groups numbered)
+    (subst (IsFolding c.args.srp.now c.in_ok-small.small c.args.p.now c.args.labels.now) (sym same) c.in_ok-lower.ensures))
+    c.plain.ensures

@@ -1,4 +1,4 @@
-use Rattle.std.proofs.Common.{ℕ, sym, subst}
+use Rattle.std.proofs.Common.{◌≡◌, ℕ, sym, subst}
 use Rattle.base_kit.specs.Partition.{IsNumbered}
 use Rattle.srp_core.specs.Problem.{Problem}
 use Rattle.srp_core.specs.Quotient.{IsQuotient}
@@ -21,10 +21,11 @@ lift_from-requires-clause-stable c =
 
 pub returns : goal.returns
 returns c =
-    ok_as (IsLifting c.args.srp.now c.in_ok-small.small c.args.p.now c.args.labels.now)
+    ok_as (λ upper. upper ≡ c.in_ok-upper.upper)
     (λ upper. (groups : ℕ) → IsNumbered c.args.p.now groups → IsLifting c.args.srp.now (small_of c.args.srp.now c.args.p.now groups) c.args.p.now
     c.args.labels.now upper)
-    c.lift_from.result
-    (λ upper is groups numbered. subst (λ (P : Problem). IsLifting c.args.srp.now P c.args.p.now c.args.labels.now upper)
-    (c.in_ok-small.ensures groups numbered) is)
-    c.lift_from.ensures
+    c.plain.result
+    (λ upper same groups numbered. subst (λ (P : Problem). IsLifting c.args.srp.now P c.args.p.now c.args.labels.now upper)
+    (c.in_ok-small.ensures groups numbered)
+    (subst (IsLifting c.args.srp.now c.in_ok-small.small c.args.p.now c.args.labels.now) (sym same) c.in_ok-upper.ensures))
+    c.plain.ensures

@@ -19,9 +19,10 @@ returns-then-is_fit c =
     let fit = fit_has_key (is_lone_number P) (contains nat_eq c.args.lone.now) c.requires.lone (is_from E c.args.sides.now c.args.source d) d.route
     c.args.asked.now c.in_ok-wanted.wanted c.in_ok-wanted.ensures c.in_ok-is_fit.is_fit c.in_ok-is_fit.ensures c.if-is_fit.true in
     takes_first P c.args.labels.now c.args.router c.args.sides.now c.args.source (key_of P c.args.asked.now) list
-    (c.as_slice-candidate-items.ensures ∙ c.in_ok-candidates.ensures.list) c.count-known.ensures.rules.edges.ordered i d _
+    (c.as_slice-candidate-items.ensures.value ∙ c.in_ok-candidates.ensures.list) c.count-known.ensures.rules.edges.ordered i d _
     (get_is list i d c.loop-candidate-test.true c.candidate-item.is)
-    (ap (λ (edges : List Edge). is_from edges c.args.sides.now c.args.source d) (sym c.edges-edges.ensures) ∙ fit.0) fit.1 c.in_ok-copy.ensures
+    (ap (λ (edges : List Edge). is_from edges c.args.sides.now c.args.source d) (sym c.edges-edges.ensures) ∙ fit.0) fit.1
+    (c.in_ok-copy.ensures ∙ c.route.ensures)
     c.loop-candidate.invariant
 
 pub loop-candidate-preserved : goal.loop-candidate-preserved
@@ -38,7 +39,7 @@ loop-candidate-preserved c =
     (λ from.
     unfit_has_other_key (is_lone_number P) (contains nat_eq c.args.lone.now) c.requires.lone (is_from E c.args.sides.now c.args.source d) d.route
     c.args.asked.now c.in_ok-wanted.wanted c.in_ok-wanted.ensures P.protocol
-    (each_of (λ (k : Candidate). IsRouteOf P.protocol k.route) c.in_ok-candidates.candidates list c.as_slice-candidate-items.ensures routes i d at)
+    (each_of (λ (k : Candidate). IsRouteOf P.protocol k.route) c.in_ok-candidates.candidates.items list c.as_slice-candidate-items.ensures.value routes i d at)
     c.requires.asked c.in_ok-is_fit.is_fit c.in_ok-is_fit.ensures c.if-is_fit.false
     (ap (λ (edges : List Edge). is_from edges c.args.sides.now c.args.source d) c.edges-edges.ensures ∙ from))
 
@@ -46,5 +47,5 @@ pub returns : goal.returns
 returns c =
     takes_none c.args.target.now c.args.labels.now c.args.router c.args.sides.now c.args.source (key_of c.args.target.now c.args.asked.now)
     c.as_slice-candidate-items.result.now
-    (c.as_slice-candidate-items.ensures ∙ c.in_ok-candidates.ensures.list)
+    (c.as_slice-candidate-items.ensures.value ∙ c.in_ok-candidates.ensures.list)
     (λ k d less g. c.loop-candidate.invariant k d (let past = c.loop-candidate-test.false in omega arith) g)

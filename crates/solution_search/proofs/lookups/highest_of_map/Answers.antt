@@ -19,7 +19,8 @@ loop-entry-preserved c =
           let m = w.max-highest.ensures in
           let u = w.unwrap_or.ensures in
           let h = w.highest-is in
-          let both : (c.loop-entry.highest ≤ ord_max nat_cmp c.loop-entry.highest w.unwrap_or.result) × (w.unwrap_or.result ≤ ord_max nat_cmp c.loop-entry.highest w.unwrap_or.result) =
+          let both : (c.loop-entry.highest ≤ ord_max nat_cmp c.loop-entry.highest w.unwrap_or.result) ×
+          (w.unwrap_or.result ≤ ord_max nat_cmp c.loop-entry.highest w.unwrap_or.result) =
           highest_max c.loop-entry.highest w.unwrap_or.result in
           let low : c.loop-entry.highest ≤ c.if-entry.highest = subst (λ n. c.loop-entry.highest ≤ n) (sym (h ∙ m)) both.0 in
           let high : w.unwrap_or.result ≤ c.if-entry.highest = subst (λ n. w.unwrap_or.result ≤ n) (sym (h ∙ m)) both.1 in

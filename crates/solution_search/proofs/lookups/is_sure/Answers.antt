@@ -44,7 +44,8 @@ loop-place-preserved c =
     let total = c.requires ∙ ap (λ (p : Problem). count p) (sym c.lookups.view_is) in
     let at = c.index-as_slice-edge.result in
     let is : at ≡ get_or c.args.labels.now (get_or c.edges-edges.result.now c.loop-place.place d).exporter at =
-    c.index-as_slice-edge.is ∙ ap (λ (l : List (Option Route)). get_or l (get_or c.edges-edges.result.now c.loop-place.place d).exporter at) c.as_slice.ensures in
+    c.index-as_slice-edge.is ∙ ap (λ (l : List (Option Route)). get_or l (get_or c.edges-edges.result.now c.loop-place.place d).exporter at)
+    c.as_slice.ensures in
     sure_more c.args.labels.now c.lookups.inside.highest.items c.edges-edges.result.now c.own_edges-first.result.0 c.loop-place.place c.args.preference at d
     c.loop-place.invariant less is (omega (arith, inside, total))
     (λ none. elim c.else-is_none.branch [
@@ -64,7 +65,8 @@ loop-place-preserved c =
     ])
 
 pub returns : goal.returns
-returns c = λ t waits. subst (λ (p : Problem). IsSure p (record { labels = c.args.labels.now; waits = waits }) c.args.router c.args.preference) c.lookups.view_is
+returns c = λ t waits. subst (λ (p : Problem). IsSure p (record { labels = c.args.labels.now; waits = waits }) c.args.router c.args.preference)
+    c.lookups.view_is
     (sure_at_end c.lookups.inside.srp.now c.count-known.ensures.rules (record { labels = c.args.labels.now; waits = waits })
     c.lookups.inside.highest.items c.lookups.invariant.1.each c.edges-edges.result.now c.edges-edges.ensures c.args.router c.args.preference
     c.own_edges-first.result.0 c.own_edges-first.result.1 c.loop-place.place c.own_edges-first.ensures c.loop-place.invariant c.loop-place-test.false)

@@ -11,7 +11,8 @@ returns-then-has_waiting-clause-steps c =
     let good = subst IsProblem c.lookups.view_is c.count-routers.ensures.rules in
     let total : c.count-routers.result ≡ count P = c.count-routers.ensures.count ∙ ap (λ (p : Problem). count p) c.lookups.view_is in
     let old = c.args.board.now in
-    dead P good old c.requires.board (subst (IsClosed (state_of old)) total c.in-None.ensures.next) (subst (HasOffered (state_of old)) total c.if-has_waiting.ensures)
+    dead P good old c.requires.board (subst (IsClosed (state_of old)) total c.in-None.ensures.next)
+    (subst (HasOffered (state_of old)) total c.if-has_waiting.ensures)
 
 pub returns-else-has_waiting-clause-steps : goal.returns-else-has_waiting-clause-steps
 returns-else-has_waiting-clause-steps c =

@@ -31,7 +31,8 @@ returns-in-Some-clause-ends g c =
     let new = c.turn.new.board in
     let turned = subst (λ (p : Problem). (found : List (List (Option Route))) → g.V.Visitor.Saw c.loop-queue.visitor found →
     IsSearched p found (cases_of board) (is_tied board) →
-    (more : List (List (Option Route))) × g.V.Visitor.Saw c.turn.new.visitor more × Turned p more (g.V.Visitor.wants c.turn.new.visitor) new c.in_ok-ending.field-0)
+    (more : List (List (Option Route))) × g.V.Visitor.Saw c.turn.new.visitor more × Turned p more
+    (g.V.Visitor.wants c.turn.new.visitor) new c.in_ok-ending.field-0)
     same c.in_ok-ending.ensures.turned in
     λ start. (let s = c.loop-queue.invariant.searched start in
     let m = turned s.0 s.1 s.2 in (

@@ -12,7 +12,8 @@ invariant-loop-queue g l = record {
   queued : IsQueued (state_of l.board) l.queue;
   problem : g.V.Visitor.problem l.visitor ≡ l.srp;
   task : g.V.Visitor.task l.visitor ≡ g.V.Visitor.task l.initial.visitor;
-  searched : g.V.Visitor.Saw l.initial.visitor [] → (found : List (List (Option Route))) × g.V.Visitor.Saw l.visitor found × IsSearched l.srp found (cases_of l.board) (is_tied l.board);
+  searched : g.V.Visitor.Saw l.initial.visitor [] → (found : List (List (Option Route))) × g.V.Visitor.Saw l.visitor found × IsSearched l.srp found
+      (cases_of l.board) (is_tied l.board);
 }
 
 abbrev pub decreases-loop-queue : goal.decreases-loop-queue

@@ -12,7 +12,8 @@ put_fork-requires-clause-router c =
 
 pub put_fork-requires-clause-unsettled : goal.put_fork-requires-clause-unsettled
 put_fork-requires-clause-unsettled c =
-    unsettled c.args.lookups.now (subst IsProblem c.lookups.view_is c.count-known.ensures.rules) c.args.board.now c.requires.board c.args.router c.requires.least
+    unsettled c.args.lookups.now (subst IsProblem c.lookups.view_is c.count-known.ensures.rules) c.args.board.now c.requires.board c.args.router
+    c.requires.least
 
 pub settle-requires-clause-fits : goal.settle-requires-clause-fits
 settle-requires-clause-fits c =

@@ -32,13 +32,15 @@ loop-import-preserved c =
     let items = c.deref-import-items.result.now in
     let d : Import = record { importer = 0; act = 0 } in
     let i = get_or items c.loop-import.import-index d in
-    let e = listed_edge c.args.lookups.now good c.args.router items i c.loop-import.invariant.all (listed_at items c.loop-import.import-index d c.loop-import-test.true) in
+    let e = listed_edge c.args.lookups.now good c.args.router items i c.loop-import.invariant.all
+    (listed_at items c.loop-import.import-index d c.loop-import-test.true) in
     let given = subst (HasGiven c.args.lookups.now c.loop-import.board c.give.new.board c.args.router i) c.in-Fine.is c.in_ok-give.ensures.given in
     record {
       all = c.loop-import.invariant.all;
       spread = subst (Spread c.args.lookups.now c.args.board.now c.give.new.board c.args.router)
           (sym (take_more items c.loop-import.import-index d c.loop-import-test.true))
-          (spread_more c.args.lookups.now good c.args.board.now c.loop-import.board c.give.new.board c.args.router (take c.loop-import.import-index items) i e.0 e.1 e.2
+          (spread_more c.args.lookups.now good c.args.board.now c.loop-import.board c.give.new.board c.args.router
+          (take c.loop-import.import-index items) i e.0 e.1 e.2
           c.loop-import.invariant.spread given);
       queued = λ q. c.in_ok-give.ensures.queued (c.loop-import.invariant.queued q);
     }
@@ -49,7 +51,8 @@ give-requires c =
     let items = c.deref-import-items.result.now in
     let d : Import = record { importer = 0; act = 0 } in
     let i = get_or items c.loop-import.import-index d in
-    let e = listed_edge c.args.lookups.now good c.args.router items i c.loop-import.invariant.all (listed_at items c.loop-import.import-index d c.loop-import-test.true) in
+    let e = listed_edge c.args.lookups.now good c.args.router items i c.loop-import.invariant.all
+    (listed_at items c.loop-import.import-index d c.loop-import-test.true) in
     let ends = import_inside c.args.lookups.now good c.args.router i e.0 e.1 e.2 in
     let so_far = c.loop-import.invariant.spread in
     record { fits = so_far.fits; router = c.requires.router; importer = ends.0; act = ends.1 }
@@ -67,7 +70,9 @@ returns-in-Upset-clause-spread c =
     let items = c.deref-import-items.result.now in
     let d : Import = record { importer = 0; act = 0 } in
     let i = get_or items c.loop-import.import-index d in
-    let e = listed_edge c.args.lookups.now good c.args.router items i c.loop-import.invariant.all (listed_at items c.loop-import.import-index d c.loop-import-test.true) in
+    let e = listed_edge c.args.lookups.now good c.args.router items i c.loop-import.invariant.all
+    (listed_at items c.loop-import.import-index d c.loop-import-test.true) in
     let given = subst (HasGiven c.args.lookups.now c.loop-import.board c.give.new.board c.args.router i) c.in-Upset.is c.in_ok-give.ensures.given in
-    spread_upset c.args.lookups.now good c.args.board.now c.loop-import.board c.give.new.board c.args.router (take c.loop-import.import-index items) i e.0 e.1 e.2
+    spread_upset c.args.lookups.now good c.args.board.now c.loop-import.board c.give.new.board c.args.router
+    (take c.loop-import.import-index items) i e.0 e.1 e.2
     c.loop-import.invariant.spread given

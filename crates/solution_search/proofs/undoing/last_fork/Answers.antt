@@ -25,9 +25,11 @@ loop-change-preserved c =
     let none = subst (λ (o : Option Wait). MatchOption o (put_off c.in-Some.change (state_of c.undo.new.board) ≡ []) (λ w. c.in-Some.change ≡ Fork w))
     c.in-None.is c.in_ok-undo.ensures.fork in
     record {
-      fits = popped_fits (length c.args.board.now.labels) c.loop-change.board c.undo.new.board c.pop.new.self.items c.in-Some.change c.loop-change.invariant.fits
+      fits = popped_fits (length c.args.board.now.labels) c.loop-change.board c.undo.new.board c.pop.new.self.items c.in-Some.change
+          c.loop-change.invariant.fits
           c.in-Some.ensures.items c.in_ok-undo.ensures.state changes c.in_ok-undo.ensures.tie;
       tie = c.in_ok-undo.ensures.tie ∙ c.loop-change.invariant.tie;
-      pending = sym (popped_other c.loop-change.board c.undo.new.board c.pop.new.self.items c.in-Some.change c.in-Some.ensures.items c.in_ok-undo.ensures.state changes
+      pending = sym (popped_other c.loop-change.board c.undo.new.board c.pop.new.self.items c.in-Some.change c.in-Some.ensures.items
+          c.in_ok-undo.ensures.state changes
           none) ∙ c.loop-change.invariant.pending;
     }

@@ -14,4 +14,5 @@ returns-in_ok-put_wait-in-Some-clause-pending c =
     c.in-Some.is c.in_ok-last_fork.ensures.pending in
     let inside : c.in-Some.wait.router < length mid.waits.items = (let f = c.in_ok-last_fork.ensures.fits.waits in omega (arith, within, f)) in
     pending
-    ∙ turned mid c.put_wait.new.board c.in-Some.wait inside c.in_ok-put_wait-in-Some.ensures.same c.in_ok-put_wait-in-Some.ensures.waits c.in_ok-put_wait-in-Some.ensures.changes
+    ∙ turned mid c.put_wait.new.board c.in-Some.wait inside c.in_ok-put_wait-in-Some.ensures.same c.in_ok-put_wait-in-Some.ensures.waits
+    c.in_ok-put_wait-in-Some.ensures.changes

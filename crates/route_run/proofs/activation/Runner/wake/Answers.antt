@@ -4,7 +4,7 @@ use Rattle.std.proofs.lemmas.List.{get_or_default}
 use Rattle.refine_partition.specs.declared.imports.Import.{Import}
 use Rattle.refine_partition.specs.Index.{import_from}
 use Rattle.srp_core.specs.Problem.{Problem, count, IsProblem}
-use Rattle.route_run.specs.Rests.{is_marked}
+use Rattle.route_run.specs.Rests.{is_at_rest}
 use Rattle.route_run.proofs.KnownRests.{importer_inside, set_unmarked, woken_more, has_woken}
 use Rattle.route_run.proofs.activation.Runner.wake.Goals as goal
 

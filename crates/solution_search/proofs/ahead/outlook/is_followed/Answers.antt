@@ -34,7 +34,8 @@ loop-import-preserved c =
     record {
       all = c.loop-import.invariant.all;
       followed = All-more
-          (λ (i : Import). IsFollowedOver c.args.lookups.now (case_of (state_of c.args.board.now)) c.args.without c.args.table.now i.importer i.act c.args.from.now)
+          (λ (i : Import). IsFollowedOver c.args.lookups.now
+          (case_of (state_of c.args.board.now)) c.args.without c.args.table.now i.importer i.act c.args.from.now)
           items c.loop-import.import-index d c.loop-import-test.true c.loop-import.invariant.followed
           (c.in_ok-is_followed_over.ensures c.if-not-branch.false);
     }

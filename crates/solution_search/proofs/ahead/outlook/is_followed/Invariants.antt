@@ -9,5 +9,6 @@ use Rattle.solution_search.proofs.ahead.outlook.is_followed.Given as goal
 abbrev pub invariant-loop-import : goal.invariant-loop-import
 invariant-loop-import l = record {
   all : l.import-items ≡ filter_map (import_from l.exporter) l.lookups.edges;
-  followed : All (λ (i : Import). IsFollowedOver l.lookups (case_of (state_of l.board)) l.without l.table i.importer i.act l.from) (take l.import-index l.import-items);
+  followed : All (λ (i : Import). IsFollowedOver l.lookups (case_of (state_of l.board)) l.without l.table i.importer i.act l.from)
+      (take l.import-index l.import-items);
 }

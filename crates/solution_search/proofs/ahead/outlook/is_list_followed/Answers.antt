@@ -7,7 +7,8 @@ use Rattle.solution_search.proofs.ahead.outlook.is_list_followed.Goals as goal
 
 pub loop-from-preserved : goal.loop-from-preserved
 loop-from-preserved c =
-    All-more (IsFollowed c.args.lookups.now (case_of (state_of c.args.board.now)) c.args.without c.args.table.now c.args.router) c.as_slice-from-items.result.now
+    All-more (IsFollowed c.args.lookups.now (case_of (state_of c.args.board.now)) c.args.without c.args.table.now c.args.router)
+    c.as_slice-from-items.result.now
     c.loop-from.from-index c.from-item.result c.loop-from-test.true c.loop-from.invariant
     (subst (IsFollowed c.args.lookups.now (case_of (state_of c.args.board.now)) c.args.without c.args.table.now c.args.router) c.from-item.is
     (c.in_ok-is_followed.ensures c.if-not-branch.false))

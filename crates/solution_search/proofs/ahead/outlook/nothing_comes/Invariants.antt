@@ -8,4 +8,5 @@ use Rattle.solution_search.proofs.ahead.outlook.nothing_comes.Given as goal
 
 abbrev pub invariant-loop-place : goal.invariant-loop-place
 invariant-loop-place l = (k : ℕ) (d : Edge) → l.first ≤ k → k < l.place → label l.board.labels (slice_index_or l.edges k d).exporter ≡ None →
-    All (GivesNothing l.lookups (case_of (state_of l.board)) (slice_index_or l.edges k d)) (foreseen_at l.outlook.table.items (slice_index_or l.edges k d).exporter)
+    All (GivesNothing l.lookups (case_of (state_of l.board)) (slice_index_or l.edges k d))
+    (foreseen_at l.outlook.table.items (slice_index_or l.edges k d).exporter)
