@@ -4,6 +4,6 @@ use Rattle.adapters.specs.declared.process_words.NoWords.{NoWords}
 use Rattle.adapters.specs.declared.process_words.NoWords.TheVariants.{NotGiven, Memory}
 
 -- the exit status that stands for it
-abbrev pub code_of : NoWords → ℕ
-code_of NotGiven = 7
-code_of Memory = 5
+abbrev pub no_words_code : NoWords → ℕ
+no_words_code NotGiven = 7
+no_words_code Memory = 5

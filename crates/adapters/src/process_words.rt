@@ -1,7 +1,7 @@
 //! The words of the process.
 
 ghost use Rattle.std.specs.Prelude.{◌≡◌};
-ghost use Rattle.adapters.specs.NoWords.{code_of};
+ghost use Rattle.adapters.specs.NoWords.{no_words_code};
 
 use std::alloc::{AllocGlobal, Global};
 use std::env;
@@ -20,7 +20,7 @@ pub enum NoWords {
 impl NoWords {
     /// The exit status that stands for it.
     pub fn code(&self) -> u8
-        ensures { result ≡ code_of self.now }
+        ensures { result ≡ no_words_code self.now }
     {
         match self {
             NoWords::NotGiven => 7,

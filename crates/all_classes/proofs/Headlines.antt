@@ -60,7 +60,7 @@ module _ (law : FewClasses) (compress : DoneIsHeadline on_class.Compress) (canon
       each (last_of request.asked (length (classes_of n))) (last_is_short words request asks (length (classes_of n)) (few_of n reads))
       (first_of request.asked) os few are
 
-  -- what is told has the frames of such outcomes
+  -- what is reported has the frames of such outcomes
   record HasSuch (o : Telling) : Type 0 where
     outcomes : List Outcome
     are : AreHeadlines text (first_of request.asked) outcomes
@@ -87,12 +87,14 @@ module _ (law : FewClasses) (compress : DoneIsHeadline on_class.Compress) (canon
   unfolding IsAllowed
   of_allowed o is =
       let at : IsAllowedAt (Some request) words contents o = subst (λ (r : Option Request). IsAllowedAt r words contents o) asks is in
-      of_text o (subst (λ (file : Option (List ℕ)). IsOfFile (λ n. IsFramed (IsClassOutcome words contents) request.asked (length (classes_of n))) file o) told at)
+      of_text o (subst (λ (file : Option (List ℕ)). IsOfFile (λ n. IsFramed (IsClassOutcome words contents) request.asked (length (classes_of n))) file o)
+      told at)
 
   of_cut : (o : Telling) → IsCutAt (Some request) words contents o → HasSuch o
   of_cut o (ended, inl before) = has_none o (ap (λ (p : Telling). p.out) before)
   of_cut o (ended, inr behind) =
-      let held = subst (λ (file : Option (List ℕ)). IfSome file (HoldsOne (λ n. IsCutShort (IsClassOutcome words contents) request.asked (length (classes_of n)) o)))
+      let held = subst (λ (file : Option (List ℕ)). IfSome file
+      (HoldsOne (λ n. IsCutShort (IsClassOutcome words contents) request.asked (length (classes_of n)) o)))
       told behind in
       record {
         outcomes = held.is.outcomes;
@@ -102,7 +104,8 @@ module _ (law : FewClasses) (compress : DoneIsHeadline on_class.Compress) (canon
 
   of_begun : (o : Telling) → IsBegunAt (Some request) words contents o → HasSuch o
   of_begun o is =
-      let held = subst (λ (file : Option (List ℕ)). IfSome file (HoldsOne (λ n. IsBegun (IsClassOutcome words contents) request.asked (length (classes_of n)) o)))
+      let held = subst (λ (file : Option (List ℕ)). IfSome file
+      (HoldsOne (λ n. IsBegun (IsClassOutcome words contents) request.asked (length (classes_of n)) o)))
       told is in
       record {
         outcomes = held.is.outcomes;

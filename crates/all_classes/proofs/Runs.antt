@@ -1,4 +1,4 @@
--- From what is told of a network, or found in its place, to what the whole call does.
+-- From what is reported of a network, or found in its place, to what the whole call does.
 use Rattle.std.proofs.Common.{◌≡◌, ◌≢◌, ◌≤◌, ◌⊎◌, inl, inr, ⊎_elim, ℕ, suc, ◌+◌, ◌-◌, List, [], ◌∷◌, length, refl, sym, ap, ◌∙◌, subst, arith, Option, Some, None, IfSome, Result, Ok}
 use Rattle.std.specs.Prelude.{IsSome}
 use Rattle.cfg_ast.specs.declared.network.Network.{Network}
@@ -134,7 +134,8 @@ module _ (words : List (List ℕ)) (contents : List ℕ → Option (List ℕ)) (
         → HasCause words contents rose result (told_by finding usage_line (file_of words) [])
     caused_by found weaker (Output bytes all) finds =
         inl (allowed_of (output all bytes.items)
-        (of_none (λ n. IsFramed (IsClassOutcome words contents) request.asked (length (classes_of n))) (contents (file_of words)) (output all bytes.items) finds))
+        (of_none (λ n. IsFramed (IsClassOutcome words contents) request.asked (length (classes_of n))) (contents (file_of words))
+        (output all bytes.items) finds))
     caused_by found weaker (Refusal reason) finds =
         inl (allowed_of (refused reason.items)
         (of_none (λ n. IsFramed (IsClassOutcome words contents) request.asked (length (classes_of n))) (contents (file_of words)) (refused reason.items) finds))
@@ -158,7 +159,8 @@ module _ (words : List (List ℕ)) (contents : List ℕ → Option (List ℕ)) (
 
       caused : (o : Telling) → HasFrames (IsAnswer request.command n) request.asked (length (classes_of n)) result o → HasCause words contents rose result o
       caused o (inl is) =
-          inl (allowed_of o (of_network (λ m. IsFramed (IsClassOutcome words contents) request.asked (length (classes_of m))) n (contents (file_of words)) o holds
+          inl (allowed_of o (of_network (λ m. IsFramed (IsClassOutcome words contents) request.asked (length (classes_of m))) n
+          (contents (file_of words)) o holds
           (framed_as (IsAnswer request.command n) (IsClassOutcome words contents) request.asked (length (classes_of n)) more o is)))
       caused o (inr (inl (inl is))) = inr (inr (inl (cut_of o (ap (λ (p : Telling). p.ending) is, inl is))))
       caused o (inr (inl (inr is))) =

@@ -1,11 +1,12 @@
--- From the frames that were put to what is told of them.
+-- From the frames that were put to what is reported of them.
 use Rattle.std.proofs.Common.{◌≡◌, ◌≢◌, ◌⊎◌, inl, inr, ℕ, Bool, true, false, List, [], refl, sym, ap, ◌∙◌, subst, Option}
 use Rattle.io_kit.specs.Ends.{Rose, Took, TookPart}
+use Rattle.io_kit.specs.FaultLines.{no_memory_line, write_fault_line}
 use Rattle.io_kit.proofs.Pieces.{part_whole, part_nothing, took_nothing}
 use Rattle.answer_kit.specs.Outcome.{Outcome}
 use Rattle.endings.specs.declared.ending.Ending.{Ending}
 use Rattle.endings.specs.declared.ending.Ending.TheVariants.{Done, NotAll, Memory, WriteFault}
-use Rattle.endings.specs.Telling.{ending_of, is_output, no_memory_line, out_of_memory, out_of_memory_behind, output, write_fault_line}
+use Rattle.endings.specs.Telling.{ending_of, is_output, out_of_memory, out_of_memory_behind, output}
 use Rattle.all_classes.specs.declared.request.Asked.{Asked}
 use Rattle.all_classes.specs.Frames.{all_done, frames}
 use Rattle.all_classes.specs.Progress.{HasPut, HasPutFew, HasPutPart, TellsFrames}

@@ -23,7 +23,7 @@ abbrev pub IsClassOutcome : List (List ℕ) → (List ℕ → Option (List ℕ))
 IsClassOutcome words contents number o = IsOutcome (class_words words number) contents o
 
 -- What words may come to: a line that says which words there are; or the frames of the classes that are asked, or
--- the refusal of the file, told once.
+-- the refusal of the file, reported once.
 abbrev pub IsAllowedAt : Option Request → List (List ℕ) → (List ℕ → Option (List ℕ)) → Telling → Type 0
 IsAllowedAt None words contents o = o ≡ misuse usage_line
 IsAllowedAt (Some request) words contents o =
@@ -51,18 +51,18 @@ IsBegunAt None words contents o = ⊥
 IsBegunAt (Some request) words contents o =
     IfSome (contents (file_of words)) (HoldsOne (λ network. IsBegun (IsClassOutcome words contents) request.asked (length (classes_of network)) o))
 
--- What is told has its cause: it is allowed, or names the file that failed, or memory ran out, or `out` failed.
+-- What is reported has its cause: it is allowed, or names the file that failed, or memory ran out, or `out` failed.
 abbrev pub HasCause : List (List ℕ) → (List ℕ → Option (List ℕ)) → Type 0 → Ending → Telling → Type 0
 HasCause words contents rose result o =
     IsAllowed words contents o ⊎ (rose × (o ≡ read_fault (file_of words))) ⊎ IsCutAt (request_of words) words contents o
     ⊎ ((result ≡ WriteFault) × IsBegunAt (request_of words) words contents o)
 
--- What a call answers and writes: something that has its cause is told.
+-- What a call answers and writes: something that has its cause is reported.
 pub record RunMeets (words : List (List ℕ)) (contents : List ℕ → Option (List ℕ)) (rose : Type 0) (result : Ending)
     (out_old out_new : Option (List ℕ)) (out_before out_now : ℕ) (err_old err_new : Option (List ℕ)) (err_before err_now : ℕ) : Type 0 where
   pub telling : Telling
   pub cause : HasCause words contents rose result telling
   pub told : Tells telling result out_old out_new out_before out_now err_old err_new err_before err_now
-  -- without a fault it is an allowed one, told whole, unless memory ran out
+  -- without a fault it is an allowed one, reported whole, unless memory ran out
   pub complete : ¬ rose → ¬ Rose out_before out_now → ¬ Rose err_before err_now
       → IsWhole (IsAllowed words contents) telling result out_old out_new err_old err_new ⊎ (result ≡ Memory)

@@ -52,7 +52,7 @@ pub record HasPutPart (IsAllowed : ℕ → Outcome → Type 0) (from count : ℕ
   pub few : length outcomes ≤ count
   pub part : TookPart old new (frames from outcomes)
 
--- something that has its cause is told of the classes that are asked
+-- something that has its cause is reported of the classes that are asked
 pub record TellsFrames (IsAllowed : ℕ → Outcome → Type 0) (asked : Asked) (classes : ℕ) (result : Ending)
     (out_old out_new : Option (List ℕ)) (out_before out_now : ℕ) (err_old err_new : Option (List ℕ)) (err_before err_now : ℕ) : Type 0 where
   pub telling : Telling

@@ -1,4 +1,4 @@
--- What is to be told of the classes of a network that are asked.
+-- What is to be reported of the classes of a network that are asked.
 use Rattle.std.specs.Prelude.{◌≡◌, ◌<◌, ◌≤◌, ◌⊎◌, ℕ, List, length}
 use Rattle.cfg_ast.specs.declared.network.Network.{Network}
 use Rattle.cfg_ast.specs.meaning.Classes.{classes_of}
@@ -38,7 +38,7 @@ pub record IsBegun (IsAllowed : ℕ → Outcome → Type 0) (asked : Asked) (cla
   pub few : length outcomes ≤ span_of asked classes
   pub told : o ≡ output (all_done outcomes) (frames (first_of asked) outcomes)
 
--- What is told of them has its cause: the work is done, or memory ran out, or `out` failed.
+-- What is reported of them has its cause: the work is done, or memory ran out, or `out` failed.
 abbrev pub HasFrames : (ℕ → Outcome → Type 0) → Asked → ℕ → Ending → Telling → Type 0
 HasFrames IsAllowed asked classes result o =
     IsFramed IsAllowed asked classes o ⊎ ((o ≡ out_of_memory) ⊎ IsCutShort IsAllowed asked classes o) ⊎ ((result ≡ WriteFault) × IsBegun IsAllowed asked classes o)

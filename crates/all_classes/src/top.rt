@@ -93,13 +93,13 @@ pub fn run<S: Source, O: Sink, E: Sink>(
     out: &mut O,
     err: &mut E,
 ) -> Ending
-    // What is told are frames of outcomes that `bonsai` may have for the words, or a line, or a fault that
+    // What is reported are frames of outcomes that `bonsai` may have for the words, or a line, or a fault that
     // has its cause, or that memory ran out.
     ensures meets { RunMeets (bytes_of_words words.now) (S.contents files.old)
         (IsSome (request_of (bytes_of_words words.now)) × Rose (S.faults files.old (file_of (bytes_of_words words.now))) (S.faults files.new (file_of (bytes_of_words words.now)))) result
         (O.taken out.old) (O.taken out.new) (O.faults out.old) (O.faults out.new) (E.taken err.old) (E.taken err.new) (E.faults err.old) (E.faults err.new) }
 
-    // The headline: over a file and an output that are told, each frame of `compress` and `canon` with status
+    // The headline: over a file and an output that are known, each frame of `compress` and `canon` with status
     // 0 has bytes that are read as the compressed network of its class.
     ensures headline { (request : Request) → request_of (bytes_of_words words.now) ≡ Some request → is_compressing request.command ≡ true
         → (text : List ℕ) → S.contents files.old (file_of (bytes_of_words words.now)) ≡ Some text
@@ -116,7 +116,7 @@ pub fn run<S: Source, O: Sink, E: Sink>(
     ensures out_later { O.faults out.old ≤ O.faults out.new }
     ensures err_later { E.faults err.old ≤ E.faults err.new }
 
-    // A fault has its cause, whether the file is told or not.
+    // A fault has its cause, whether the file is known or not.
     ensures read_fault { result ≡ Ending.ReadFault → IsSome (request_of (bytes_of_words words.now))
         × Rose (S.faults files.old (file_of (bytes_of_words words.now))) (S.faults files.new (file_of (bytes_of_words words.now))) }
     ensures write_fault { result ≡ Ending.WriteFault → Rose (E.faults err.old) (E.faults err.new) ⊎ Rose (O.faults out.old) (O.faults out.new) }

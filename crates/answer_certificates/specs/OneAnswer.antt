@@ -1,4 +1,4 @@
--- `verify` has one answer to a network, the number of a class and a certificate that is told.
+-- `verify` has one answer to a network, the number of a class and a certificate that is known.
 use Rattle.std.specs.Prelude.{◌≡◌, ℕ, List, Option, IsSome}
 use Rattle.cfg_ast.specs.declared.network.Network.{Network}
 use Rattle.answer_kit.specs.Outcome.{Outcome}

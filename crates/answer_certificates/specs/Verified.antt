@@ -1,4 +1,4 @@
--- What the command `verify` tells of a certificate.
+-- What the command `verify` reports of a certificate.
 use Rattle.std.specs.Prelude.{◌≡◌, ℕ, List, ◌++◌, codes, decimal, Option, Result, Ok, Err}
 use Rattle.base_kit.specs.declared.act_graph.ActGraph.{ActGraph}
 use Rattle.cfg_ast.specs.declared.network.Network.{Network}
@@ -45,17 +45,17 @@ IsVerdict (Ok certificate) o = o ≡ done (codes "yes\n")
 IsVerdict (Err (cut_refusal.At line why)) o = o ≡ refused (certificate_reason line why)
 IsVerdict (Err cut_refusal.Memory) o = ⊥
 
--- what is told of a text that is to spell a certificate of the graph
+-- what is reported of a text that is to spell a certificate of the graph
 abbrev pub IsVerdictOn : Problem → ActGraph → List ℕ → Outcome → Type 0
 IsVerdictOn problem graph text o = IsVerdict (certificate_of_text graph problem.names text) o
 
--- what `verify` is to tell of a class
+-- what `verify` is to report of a class
 pub record IsVerifyOf (network : Network) (second : Option (List ℕ)) (class : DestClass) (o : Outcome) : Type 0 where
   pub problem : Problem
   pub graph : ActGraph
   pub are : IsGraphFor network class problem graph
   pub verdict : IsOfSecond certificate_limit long_certificate second (IsVerdictOn problem graph) o
 
--- what `verify` is to tell of a network and the number of a class
+-- what `verify` is to report of a network and the number of a class
 abbrev pub IsVerifyAnswer : Network → ℕ → Option (List ℕ) → Outcome → Type 0
 IsVerifyAnswer network number second = IsOfClass (class_at (classes_of network) number) number (IsVerifyOf network second)

@@ -9,7 +9,7 @@ use cut_certificate::laws::colors_are_aside;
 use given_laws::given_is_well_formed;
 use net_topology::laws::few_links;
 
-/// `verify` has one answer to a network, the number of a class and a certificate that is told.
+/// `verify` has one answer to a network, the number of a class and a certificate that is known.
 pub fn verify_answer_is_one()
     ensures { VerifyAnswerIsOne }
 {

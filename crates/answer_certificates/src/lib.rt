@@ -2,7 +2,7 @@
 //!
 //! Each command replies with an outcome that its definition allows, or that the second file could not be
 //! read, or that memory ran out. Which certificate `certify` writes is free. The module `laws` says that
-//! `verify` has only one such outcome if the file is told, that the outcome is yes for what `certify`
+//! `verify` has only one such outcome if the file is known, that the outcome is yes for what `certify`
 //! writes, and that a yes means that the file names the groups of the class.
 #![tactic(auto)]
 

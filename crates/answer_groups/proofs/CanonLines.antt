@@ -42,7 +42,8 @@ same_blank k l s n (x ∷ lists) = ap (λ (names : List (List ℕ)). [] ∷ name
 
 same_matching : (k l s : ℕ) (o : Option (List CommunityList)) → without_names (matching k s o) ≡ without_names (matching l s o)
 same_matching k l s None = refl
-same_matching k l s (Some lists) = ap (λ (names : List (List ℕ)). Some (let line : NameLine = record { names = names; line = 0 } in line)) (same_blank k l s 1 lists)
+same_matching k l s (Some lists) = ap (λ (names : List (List ℕ)). Some (let line : NameLine = record { names = names; line = 0 } in line))
+    (same_blank k l s 1 lists)
 
 abbrev deleting : ℕ → ℕ → Option CommunityList → Option Named
 deleting k s o = option_map (λ (list : CommunityList). named (deletion_name k s)) o
@@ -63,7 +64,8 @@ prepending none number adds = if none then None else Some (record { numbers = re
 
 same_prepending : (none : Bool) (number other adds : ℕ) → without_numbers (prepending none number adds) ≡ without_numbers (prepending none other adds)
 same_prepending true number other adds = refl
-same_prepending false number other adds = ap (λ (xs : List ℕ). Some (let prepend : Prepend = record { numbers = xs; line = 0 } in prepend)) (zeros adds number other)
+same_prepending false number other adds = ap (λ (xs : List ℕ). Some (let prepend : Prepend = record { numbers = xs; line = 0 } in prepend))
+    (zeros adds number other)
 
 module _ (number other k l : ℕ) where
   same_entry : (x : PlainEntry) → unnamed (written_entry number k x) ≡ unnamed (written_entry other l x)

@@ -52,7 +52,7 @@ fits_for n class universe original problem built named rules alike printable wit
   within = subst (λ (set : List ℕ). AllByRecursion (IsActWithin set) problem.acts) named within;
 }
 
--- ---- the edge that is told
+-- ---- the edge that is reported
 
 at_length : (before : List Edge) (e : Edge) (after : List Edge) (none : Edge) → slice_index_or (before ++ e ∷ after) (length before) none ≡ e
 at_length [] e after none = refl
@@ -82,7 +82,7 @@ told_first n class problem built place x edge same reply answers =
     } in
     answers_only reply (refused (no_canon problem edge)) (IsWithoutCanon n class) ⊥ ⊥ without answers
 
--- the bytes that are told, with the names of both ends
+-- the bytes that are reported, with the names of both ends
 pub names_told : (reason : Result (String Global) AllocError) (importer exporter first second : List ℕ) → first ≡ importer → second ≡ exporter
     → IfOk reason (λ text. string_bytes text ≡ codes "NoCanon " ++ (first ++ (codes " " ++ second)))
     → IfOk reason (λ text. string_bytes text ≡ codes "NoCanon " ++ importer ++ codes " " ++ exporter)

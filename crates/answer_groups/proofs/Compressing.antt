@@ -1,4 +1,4 @@
--- Public: from what is emitted of a class to what is to be told.
+-- Public: from what is emitted of a class to what is to be reported.
 use Rattle.std.proofs.Common.{◌≡◌, ℕ, List, Option, Result, Ok, Err, sym, subst}
 use Rattle.cfg_ast.specs.declared.classes.DestClass.{DestClass}
 use Rattle.cfg_ast.specs.declared.network.Network.{Network}

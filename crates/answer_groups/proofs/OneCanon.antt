@@ -94,7 +94,7 @@ module _ (universe : List ℕ) (problem : Problem) where
       let none = x.none in
       cc
 
--- what is told of a problem that has such an edge
+-- what is reported of a problem that has such an edge
 record IsToldOf (universe : List ℕ) (problem : Problem) (o : Outcome) : Type 0 where
   place : ℕ
   first : IsFirstWithout universe problem place

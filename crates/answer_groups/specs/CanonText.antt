@@ -34,7 +34,7 @@ router_name_in problem router = slice_index_or problem.names router []
 abbrev pub no_canon : Problem → Edge → List ℕ
 no_canon problem edge = codes "NoCanon " ++ router_name_in problem edge.importer ++ codes " " ++ router_name_in problem edge.exporter
 
--- some edge of the class's problem has none, and the first that has none is told
+-- some edge of the class's problem has none, and the first that has none is reported
 pub record IsWithoutCanon (network : Network) (class : DestClass) (o : Outcome) : Type 0 where
   pub problem : Problem
   pub built : IsBuiltFor network class problem

@@ -1,4 +1,4 @@
--- What is emitted of a class, and what is told of it.
+-- What is emitted of a class, and what is reported of it.
 use Rattle.std.specs.Prelude.{◌≡◌, Result, Ok, Err}
 use Rattle.cfg_ast.specs.declared.network.Network.{Network}
 use Rattle.cfg_ast.specs.declared.classes.DestClass.{DestClass}

@@ -29,7 +29,7 @@ fn no_canon(alloc: Global, problem: &Srp, edge: &Edge) -> Reply
     refuse(format!(in alloc; "NoCanon {importer} {exporter}"))
 }
 
-// The problem of a class with canonical acts, or the reply to tell if an edge has no canonical lists.
+// The problem of a class with canonical acts, or the reply to report if an edge has no canonical lists.
 fn canonical_of(
     alloc: Global,
     checked: &Checked,

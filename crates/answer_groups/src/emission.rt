@@ -1,4 +1,4 @@
-//! What is told of the network of the groups of a class.
+//! What is reported of the network of the groups of a class.
 
 ghost use Rattle.std.specs.Prelude.{◌≡◌};
 ghost use Rattle.answer_groups.specs.Compressing.{IsTextOf, IsTextOrRefusal};

@@ -1,4 +1,4 @@
-//! The commands that tell of classes and groups: `classes`, `groups`, `compress` and `canon`.
+//! The commands that report classes and groups: `classes`, `groups`, `compress` and `canon`.
 //!
 //! Each command replies with an outcome that its definition allows, or that memory ran out. The module
 //! `laws` says that there is only one such outcome.

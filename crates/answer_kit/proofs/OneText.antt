@@ -22,7 +22,7 @@ one_of_text limit long A B text o p one (inl x) (inr y) = absurd (omega (arith, 
 one_of_text limit long A B text o p one (inr x) (inl y) = absurd (omega (arith, x.0, y.0))
 one_of_text limit long A B text o p one (inr x) (inr y) = one x.1 y.1
 
--- the same of a file that is told
+-- the same of a file that is known
 pub one_of_second : (limit : ℕ) (long : List ℕ) (A B : List ℕ → Outcome → Type 0) (second : Option (List ℕ)) → IsSome second → (o p : Outcome)
     → ((text : List ℕ) → A text o → B text p → o ≡ p)
     → IsOfSecond limit long second A o → IsOfSecond limit long second B p → o ≡ p

@@ -25,7 +25,7 @@ pub of_second : (limit : ℕ) (long : List ℕ) (A B : List ℕ → Outcome → 
 of_second limit long A B None o more is = tt
 of_second limit long A B (Some text) o more is = of_text limit long A B text o (λ short. more text) is
 
--- the text that is told was read
+-- the text that is known was read
 pub of_read : (limit : ℕ) (long : List ℕ) (A : List ℕ → Outcome → Type 0) (bytes : List ℕ) (second : Option (List ℕ)) (o : Outcome) → length bytes ≤ limit
     → IfSome second (λ text. bytes ≡ text) → A bytes o → IsOfSecond limit long second A o
 of_read limit long A bytes None o short same is = tt

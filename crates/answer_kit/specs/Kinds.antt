@@ -1,4 +1,4 @@
--- How a refusal by line and kind is told.
+-- How a refusal by line and kind is reported.
 use Rattle.std.specs.Prelude.{ℕ, List, ◌++◌, codes, decimal}
 use Rattle.cfg_ast.specs.declared.refusal.Kind.{Kind}
 use Rattle.cfg_ast.specs.declared.refusal.Kind.TheVariants as kind

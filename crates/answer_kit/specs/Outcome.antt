@@ -1,5 +1,6 @@
 -- What a call is to write, and the status that it is to answer.
 use Rattle.std.specs.Prelude.{ℕ, List, [], ◌∷◌, ◌++◌, codes}
+use Rattle.io_kit.specs.FaultLines.{read_fault_line, no_memory_line}
 use Rattle.answer_kit.specs.declared.status.Status.{Status}
 use Rattle.answer_kit.specs.declared.status.Status.TheVariants.{Done, Refused, Usage, ReadFault, WriteFault, Memory, NotStable}
 
@@ -37,10 +38,7 @@ usage = record { status = Usage; out = []; err = codes "usage: bonsai classes F,
 
 -- the file of this name could not be read
 abbrev pub read_fault : List ℕ → Outcome
-read_fault name = record { status = ReadFault; out = []; err = codes "read fault: " ++ name ++ 10 ∷ [] }
+read_fault name = record { status = ReadFault; out = []; err = read_fault_line name }
 
 abbrev pub out_of_memory : Outcome
-out_of_memory = record { status = Memory; out = []; err = codes "out of memory\n" }
-
-abbrev pub write_fault_line : List ℕ
-write_fault_line = codes "write fault\n"
+out_of_memory = record { status = Memory; out = []; err = no_memory_line }

@@ -1,4 +1,4 @@
--- What a command has come to, and what is to be told of it.
+-- What a command has come to, and what is to be reported of it.
 use Rattle.std.specs.Prelude.{◌≡◌, ℕ, List}
 use Rattle.answer_kit.specs.declared.reply.Reply.{Reply}
 use Rattle.answer_kit.specs.declared.reply.Reply.TheVariants.{Output, Refusal, NotStable, Misuse, ReadFailed, SecondFailed, NoMemory}
@@ -14,8 +14,8 @@ told_by ReadFailed first second = read_fault first
 told_by SecondFailed first second = read_fault second
 told_by NoMemory first second = out_of_memory
 
--- only that outcome
-abbrev pub Only : Outcome → Outcome → Type 0
+-- only this is allowed
+abbrev pub Only : {O : Type 0} → O → O → Type 0
 Only allowed o = o ≡ allowed
 
 -- A reply to a command has its cause: it is an outcome that is allowed, or a fault of one of the files,

@@ -13,7 +13,7 @@ use Rattle.answer_kit.specs.Outcome.{Outcome, refused}
 abbrev pub IsOfText : ℕ → List ℕ → (List ℕ → Outcome → Type 0) → List ℕ → Outcome → Type 0
 IsOfText limit long IsAllowed text o = ((limit < length text) × (o ≡ refused long)) ⊎ ((length text ≤ limit) × IsAllowed text o)
 
--- The same of the second file. Where it is not told, any outcome is allowed.
+-- The same of the second file. Where it is not known, any outcome is allowed.
 abbrev pub IsOfSecond : ℕ → List ℕ → Option (List ℕ) → (List ℕ → Outcome → Type 0) → Outcome → Type 0
 IsOfSecond limit long second IsAllowed o = IfSome second (λ text. IsOfText limit long IsAllowed text o)
 
@@ -60,7 +60,7 @@ IsOfSolution problem second IsAllowed o = IsOfSecond solution_limit long_solutio
 abbrev pub AllowsNoLabels : List (Option Route) → Outcome → Type 0
 AllowsNoLabels labels o = ⊥
 
--- the text that is told gives these labels
+-- the text that is known gives these labels
 pub record GivesLabels (problem : Problem) (labels : List (Option Route)) (text : List ℕ) : Type 0 where
   pub short : length text ≤ solution_limit
   pub read : labels_of_text problem.protocol problem.names text ≡ Ok labels

@@ -35,7 +35,7 @@ fn no_class(alloc: Global, number: u32) -> Reply
     refuse(format!(in alloc; "NoClass {number}"))
 }
 
-/// The class of this number, counted from 1, or the reply to tell if there is no such class.
+/// The class of this number, counted from 1, or the reply to report if there is no such class.
 pub fn class_of_number(alloc: Global, checked: &Checked, number: u32) -> Result<DestClass, Reply>
     ensures class { IfOk result (λ class. class_at (classes_of checked.now.network) number ≡ Some class) }
     ensures none { IfErr result (λ reply. Answers reply (IsOfClass (class_at (classes_of checked.now.network) number) number AllowsNoClass) ⊥ ⊥) }

@@ -1,11 +1,11 @@
-//! What a command has come to, before it is told.
+//! What a command has come to, before it is reported.
 
 ghost use Rattle.std.specs.Prelude.{◌≡◌, IfOk, OnErr, string_bytes};
 ghost use Rattle.answer_kit.specs.Replies.{IsRefusalOf};
 
 use std::alloc::AllocError;
 
-/// What a command has come to, before it is told.
+/// What a command has come to, before it is reported.
 #[derive(Drop)]
 pub enum Reply {
     /// The whole output.

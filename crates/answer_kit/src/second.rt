@@ -9,7 +9,7 @@ use crate::reply::{Reply, refuse};
 use io_kit::{InFault, Source, read_all};
 use std::alloc::Global;
 
-/// The bytes of the second file, at most `limit`, or the reply to tell if there are none.
+/// The bytes of the second file, at most `limit`, or the reply to report if there are none.
 pub fn read_second<S: Source>(
     alloc: Global,
     name: &str,

@@ -55,7 +55,7 @@ fn labels_in(alloc: Global, problem: &Srp, text: &[u8]) -> Result<Labels, Reply>
     }
 }
 
-/// The labels of a problem that the second file gives, or the reply to tell if it gives none.
+/// The labels of a problem that the second file gives, or the reply to report if it gives none.
 pub fn solution_of<S: Source>(
     alloc: Global,
     problem: &Srp,

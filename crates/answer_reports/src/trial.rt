@@ -1,25 +1,15 @@
 //! The command `trial`.
 
 ghost use Rattle.std.specs.Prelude.{◌≡◌};
-ghost use Rattle.answer_kit.specs.Networks.{long_text};
 ghost use Rattle.answer_kit.specs.Outcome.{refused};
 ghost use Rattle.answer_kit.specs.Replies.{Answers, Only};
 ghost use Rattle.answer_reports.specs.Trials.{IsSummaryOfText, bad_size, IsTrialAnswer};
 
 use crate::summary;
 use answer_kit::{Reply, refuse};
-use answer_texts::network_in;
+use answer_texts::{TEXT_LIMIT, long_text, network_in};
 use fat_gen::{FatRefusal, fat_tree};
 use std::alloc::Global;
-
-// A text has at most this many bytes.
-const TEXT_LIMIT: usize = 16_777_216;
-
-fn long_text(alloc: Global) -> Reply
-    ensures { Answers result (Only (refused long_text)) ⊥ ⊥ }
-{
-    refuse(format!(in alloc; "FileTooLong"))
-}
 
 // The summary of the network that a text gives.
 fn summary_of_text(alloc: Global, text: &[u8]) -> Reply

@@ -1,11 +1,11 @@
-//! The network of a text, or what is told where there is none: the first step of every command that
+//! The network of a text, or what is reported where there is none: the first step of every command that
 //! reads a network.
 #![tactic(auto)]
 
 ghost use Rattle.std.specs.Prelude.{◌≡◌, ◌≤◌, length, Ok, IfOk, IfErr};
 ghost use Rattle.cfg_ast.specs.text.Reading.{reading_of};
 ghost use Rattle.answer_kit.specs.Kinds.{line_reason};
-ghost use Rattle.answer_kit.specs.Networks.{text_limit, IsOfReading, AllowsNoNetwork, Refuses};
+ghost use Rattle.answer_kit.specs.Networks.{text_limit, long_text, IsOfReading, AllowsNoNetwork, Refuses};
 ghost use Rattle.answer_kit.specs.Outcome.{refused};
 ghost use Rattle.answer_kit.specs.Replies.{Answers, Only};
 
@@ -14,6 +14,16 @@ use cfg_ast::{Kind, ReadRefusal};
 use cfg_check::{Checked, check_network};
 use cfg_parse::read_network;
 use std::alloc::Global;
+
+/// A text has at most this many bytes.
+pub const TEXT_LIMIT: usize = 16_777_216;
+
+/// The refusal of a text that has more.
+pub fn long_text(alloc: Global) -> Reply
+    ensures { Answers result (Only (refused long_text)) ⊥ ⊥ }
+{
+    refuse(format!(in alloc; "FileTooLong"))
+}
 
 // The refusal of a text, by its line and kind.
 fn line_refusal(alloc: Global, line: u32, kind: Kind) -> Reply
@@ -32,7 +42,7 @@ fn text_refusal(alloc: Global, refusal: ReadRefusal) -> Reply
     }
 }
 
-/// The network of a text in which no fault stands, or the reply to tell if there is none.
+/// The network of a text in which no fault stands, or the reply to report if there is none.
 pub fn network_in(alloc: Global, text: &[u8]) -> Result<Checked, Reply>
     requires { length text.now ≤ text_limit }
     ensures read { IfOk result (λ checked. reading_of text.now ≡ Ok checked.network) }

@@ -18,7 +18,7 @@ use Rattle.answer_kit.specs.SecondFiles.{IsOfLabels, IsOfSolution, long_solution
 use Rattle.answer_solutions.specs.Carries.{IsIfStable, IsFolded, IsLifted, IsFoldOfLabels, IsLiftOfLabels, IsFoldOf, IsLiftOf, IsFoldAnswer, IsLiftAnswer}
 use Rattle.answer_solutions.specs.Checks.{break_reason}
 
--- what is told where it is told that the work is done
+-- what is reported where it is reported that the work is done
 abbrev IsDone : (Outcome → Type 0) → Type 0
 IsDone IsAllowed = (o : Outcome) → o.status ≡ Done → IsAllowed o → o ≡ done o.out
 

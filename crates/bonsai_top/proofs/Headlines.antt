@@ -78,7 +78,8 @@ module _ (text : List ℕ) (n : Network) (read : IsRead text n) (number : ℕ) (
   compress_compresses law class has is =
       unless_pool (IsPlanOf n class) class (λ e allowed. law n class e ∣ (text, read.given) ∣₁ read.faultless has allowed) (pool_line n class) refl is
 
-  canon_compresses : FittingPlanCompresses → CanonicalFits → (class : DestClass) → Contains (classes_of n) class → IsCanonOf n class o → Compresses n class o.out
+  canon_compresses : FittingPlanCompresses → CanonicalFits → (class : DestClass) → Contains (classes_of n) class → IsCanonOf n class o →
+      Compresses n class o.out
   canon_compresses law fits class has (inl without) = absurd (no_refusal (no_canon without.problem without.first.edge) without.told)
   canon_compresses law fits class has (inr canonical) =
       unless_pool (IsCanonicalPlanOf n class) class
@@ -146,9 +147,10 @@ canon_is_headline law fits words contents text number o names told is status =
     let h = of_outcome words contents (command.OnClass on_class.Canon number) text o status refl names told is in
     let n = h.network in
     is_headline text n number o h.reads
-    (has_bytes text n h.read number o status (IsCanonOf n) (canon_compresses text n h.read number o status law fits) (class_at (classes_of n) number) refl h.answer)
+    (has_bytes text n h.read number o status (IsCanonOf n) (canon_compresses text n h.read number o status law fits)
+    (class_at (classes_of n) number) refl h.answer)
 
--- a run that is done told an answer to its command, and all of its bytes
+-- a run that is done reported an answer to its command, and all of its bytes
 record HasTold (named : Command) (text : List ℕ) (second : Option (List ℕ)) (before : List ℕ) (after : Option (List ℕ)) : Type 0 where
   outcome : Outcome
   status : outcome.status ≡ Done
@@ -198,7 +200,8 @@ module _ (words : List (List ℕ)) (contents : List ℕ → Option (List ℕ)) (
   headline law number = headline_of on_class.Compress number (λ text n read o status is.
       has_bytes text n read number o status (IsCompressOf n) (compress_compresses text n read number o status law) (class_at (classes_of n) number) refl is)
 
-  pub canonical : FittingPlanCompresses → CanonicalFits → (number : ℕ) → command_of words ≡ Some (command.OnClass on_class.Canon number) → (text before : List ℕ)
+  pub canonical : FittingPlanCompresses → CanonicalFits → (number : ℕ) → command_of words ≡ Some (command.OnClass on_class.Canon number) →
+      (text before : List ℕ)
       → contents (file_of words) ≡ Some text → out_old ≡ Some before → IsHeadline text number before out_new
   canonical law fits number = headline_of on_class.Canon number (λ text n read o status is.
       has_bytes text n read number o status (IsCanonOf n) (canon_compresses text n read number o status law fits) (class_at (classes_of n) number) refl is)

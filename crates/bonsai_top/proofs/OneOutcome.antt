@@ -1,4 +1,4 @@
--- There is only one outcome, if the files that decide it are told.
+-- There is only one outcome, if the files that decide it are known.
 use Rattle.std.proofs.Common.{◌≡◌, ℕ, Bool, true, false, List, refl, sym, ◌∙◌, Option, Some, None}
 use Rattle.std.specs.Prelude.{IsSome}
 use Rattle.cfg_ast.specs.declared.network.Network.{Network}
@@ -22,7 +22,7 @@ use Rattle.answer_kit.proofs.OneText.{one_of_network}
 use Rattle.bonsai_top.specs.Outcomes.{IsOnNetwork, IsAnswerTo, IsOutcomeOfText, IsOutcomeOfFiles, IsOutcomeWithoutFiles, IsOutcomeBy, IsOutcomeAt, IsOutcome}
 use Rattle.bonsai_top.specs.Words.{file_of, second_of}
 
--- the second file is told, if the command reads it
+-- the second file is known, if the command reads it
 abbrev IsToldTo : Command → Option (List ℕ) → Type 0
 IsToldTo command second = reads_second command ≡ true → IsSome second
 

@@ -1,4 +1,4 @@
--- From a reply that has its cause and was told to what the whole call does.
+-- From a reply that has its cause and was reported to what the whole call does.
 use Rattle.std.proofs.Common.{◌≡◌, ◌≢◌, ◌⊎◌, inl, inr, ⊎_elim, ℕ, List, refl, ◌∙◌, ap, Option}
 use Rattle.answer_kit.specs.declared.status.Status.{Status}
 use Rattle.answer_kit.specs.declared.status.Status.TheVariants.{WriteFault, Memory}
@@ -19,7 +19,7 @@ module _ (IsAllowed : Outcome → Type 0) (first second : List ℕ) (first_rose 
   abbrev Whole : Outcome → Type 0
   Whole o = IsWhole IsAllowed o result out_old out_new err_old err_new
 
-  -- without a fault of an output, the outcome was told whole
+  -- without a fault of an output, the outcome was reported whole
   status_told : (o : Outcome) → Told o → result ≢ WriteFault → result ≡ o.status
   status_told o told nw = ⊎_elim (λ e. e) (λ w. absurd (nw w)) told.status
 

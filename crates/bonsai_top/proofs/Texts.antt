@@ -26,7 +26,7 @@ pub answers_text : (reply : Reply) (command : Command) (text : List ℕ) (told s
 answers_text reply command text told second first_rose rose rose' short same weaker answers =
     answers_as reply _ _ ⊥ first_rose rose rose' (outcome_text command text told second short same) (λ e. absurd e) weaker answers
 
--- the text that was read leads to the second file, so the file does where it is told
+-- the text that was read leads to the second file, so the file does where it is known
 pub told_leads : (command : Command) (text : List ℕ) (told : Option (List ℕ)) → IfSome told (λ c. text ≡ c) → LeadsToSecond command text
     → IfSome told (IsBeforeSecond (Some command))
 told_leads command text None same leads = tt

@@ -27,6 +27,6 @@ abbrev pub IsBeforeSecond : Option Command → List ℕ → Type 0
 IsBeforeSecond None text = ⊥
 IsBeforeSecond (Some command) text = LeadsToSecond command text
 
--- The command reads the second file, whose count of faults rose. The first file leads to it, where that one is told.
+-- The command reads the second file, whose count of faults rose. The first file leads to it, where that one is known.
 abbrev pub SecondFailed : Option Command → Option (List ℕ) → ℕ → ℕ → Type 0
 SecondFailed command first before now = SecondRose command before now × IfSome first (IsBeforeSecond command)

@@ -26,7 +26,7 @@ pub record IsHeadline (text : List ℕ) (number : ℕ) (before : List ℕ) (afte
   pub took : after ≡ Some (before ++ bytes)
   pub compresses : Compresses network class bytes
 
--- The bytes of an outcome of this command on a class that is done, over a file that is told, compress its network.
+-- The bytes of an outcome of this command on a class that is done, over a file that is known, compress its network.
 abbrev pub DoneIsHeadline : ClassCommand → Type 0
 DoneIsHeadline of = (words : List (List ℕ)) (contents : List ℕ → Option (List ℕ)) (text : List ℕ) (number : ℕ) (o : Outcome)
     → command_of words ≡ Some (OnClass of number) → contents (file_of words) ≡ Some text → IsOutcome words contents o → o.status ≡ Done

@@ -1,4 +1,4 @@
--- There is only one outcome, if the files that decide it are told.
+-- There is only one outcome, if the files that decide it are known.
 use Rattle.std.specs.Prelude.{◌≡◌, ℕ, Bool, true, false, List, Option, Some, None, IsSome}
 use Rattle.bonsai_top.specs.declared.command.ClassCommand.TheVariants as on_class
 use Rattle.bonsai_top.specs.declared.command.Command.{Command}
@@ -8,7 +8,7 @@ use Rattle.bonsai_top.specs.Commands.{command_of, reads_first, reads_second, is_
 use Rattle.answer_kit.specs.Outcome.{Outcome}
 use Rattle.bonsai_top.specs.Outcomes.{IsOutcome}
 
--- the files that the command reads are told
+-- the files that the command reads are known
 pub record AreTold (words : List (List ℕ)) (contents : List ℕ → Option (List ℕ)) : Type 0 where
   pub first : is_read reads_first (command_of words) ≡ true → IsSome (contents (file_of words))
   pub second : is_read reads_second (command_of words) ≡ true → IsSome (contents (second_of words))
@@ -22,7 +22,7 @@ abbrev pub leaves_free : Option Command → Bool
 leaves_free None = false
 leaves_free (Some command) = is_free command
 
--- two outcomes that the words allow over files that are told are equal, if nothing is free
+-- two outcomes that the words allow over files that are known are equal, if nothing is free
 abbrev pub OutcomeIsOne : Type 0
 OutcomeIsOne = (words : List (List ℕ)) (contents : List ℕ → Option (List ℕ)) → AreTold words contents
     → leaves_free (command_of words) ≡ false → (o p : Outcome) → IsOutcome words contents o → IsOutcome words contents p → o ≡ p

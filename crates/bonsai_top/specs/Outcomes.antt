@@ -48,7 +48,7 @@ IsOnClass on_class.Json network number = IsReported json_text network number
 IsOnClass on_class.Canon network number = IsCanonOf network
 IsOnClass on_class.Certify network number = IsCertifyOf network
 
--- what a command is to write of a class, with the second file where it is told
+-- what a command is to write of a class, with the second file where it is known
 abbrev pub IsOnSecond : SecondCommand → Network → Option (List ℕ) → DestClass → Outcome → Type 0
 IsOnSecond on_second.Check network second = IsCheckOf network second
 IsOnSecond on_second.Fold network second = IsFoldOf network second
@@ -57,7 +57,7 @@ IsOnSecond on_second.Run network second = IsRunOf network second
 IsOnSecond on_second.Reach network second = IsReachOf network second
 IsOnSecond on_second.Verify network second = IsVerifyOf network second
 
--- what a command is to write of a network, with the second file where it is told
+-- what a command is to write of a network, with the second file where it is known
 abbrev pub IsAnswerTo : Command → Network → Option (List ℕ) → Outcome → Type 0
 IsAnswerTo (command.OnNetwork of) network second o = IsOnNetwork of network o
 IsAnswerTo (command.OnClass of number) network second o = IsOfClass (class_at (classes_of network) number) number (IsOnClass of network number) o
@@ -72,7 +72,7 @@ IsOutcomeOfReading command second = IsOfReading (λ network o. IsAnswerTo comman
 abbrev pub IsOutcomeOfText : Command → Option (List ℕ) → List ℕ → Outcome → Type 0
 IsOutcomeOfText command second = IsOfNetworkIn (λ network o. IsAnswerTo command network second o)
 
--- a command over its files; one that decides and is not told allows any outcome
+-- a command over its files; one that decides and is not known allows any outcome
 abbrev pub IsOutcomeOfFiles : Command → Option (List ℕ) → Option (List ℕ) → Outcome → Type 0
 IsOutcomeOfFiles command first second o = IfSome first (λ text. IsOutcomeOfText command second text o)
 
@@ -93,6 +93,6 @@ abbrev pub IsOutcomeAt : Option Command → Option (List ℕ) → Option (List �
 IsOutcomeAt None first second o = o ≡ usage
 IsOutcomeAt (Some command) first second o = IsOutcomeOf command first second o
 
--- What the words allow over the contents of the files, as far as these are told.
+-- What the words allow over the contents of the files, as far as these are known.
 unfoldable pub IsOutcome : List (List ℕ) → (List ℕ → Option (List ℕ)) → Outcome → Type 0
 IsOutcome words contents o = IsOutcomeAt (command_of words) (contents (file_of words)) (contents (second_of words)) o

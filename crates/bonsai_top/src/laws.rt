@@ -4,7 +4,7 @@ ghost use Rattle.bonsai_top.specs.Headline.{DoneIsHeadline};
 ghost use Rattle.bonsai_top.specs.OneOutcome.{OutcomeIsOne};
 ghost use Rattle.bonsai_top.specs.declared.command.ClassCommand.TheVariants as on_class;
 
-/// The words allow only one outcome, if the files that the command reads are told. The exception is
+/// The words allow only one outcome, if the files that the command reads are known. The exception is
 /// `certify`, which may choose the certificate.
 pub fn outcome_is_one()
     ensures { OutcomeIsOne }
@@ -24,7 +24,7 @@ pub fn outcome_is_one()
     answer_reports::laws::trial_answer_is_one();
 }
 
-/// If an outcome of `compress` or `canon` is done over a file that is told, its bytes are read as the
+/// If an outcome of `compress` or `canon` is done over a file that is known, its bytes are read as the
 /// compressed network.
 pub fn done_is_headline()
     ensures compress { DoneIsHeadline on_class.Compress }

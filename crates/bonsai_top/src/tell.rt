@@ -1,4 +1,4 @@
-//! How a reply is told to the outputs.
+//! How a reply is reported to the outputs.
 
 ghost use Rattle.std.specs.Prelude.{◌≡◌, ◌≢◌, ◌≤◌, ◌++◌, ◌⊎◌, [], OnOk, OnErr};
 ghost use Rattle.io_kit.specs.Ends.{Rose, Took, TookPart};

@@ -25,7 +25,7 @@ pub fn run<S: Source, O: Sink, E: Sink>(
     out: &mut O,
     err: &mut E,
 ) -> Status
-    // What is told is an outcome that the words allow over the contents, as far as these are told, or a
+    // What is reported is an outcome that the words allow over the contents, as far as these are known, or a
     // fault that has its cause, or that memory ran out.
     ensures meets { RunMeets (IsOutcome (bytes_of_words words.now) (S.contents files.old)) (file_of (bytes_of_words words.now)) (second_of (bytes_of_words words.now))
         (FirstRose (command_of (bytes_of_words words.now)) (S.faults files.old (file_of (bytes_of_words words.now))) (S.faults files.new (file_of (bytes_of_words words.now))))
@@ -38,7 +38,7 @@ pub fn run<S: Source, O: Sink, E: Sink>(
     ensures usage_only { result ≡ Status.Usage → command_of (bytes_of_words words.now) ≡ None }
     ensures unread { is_read reads_first (command_of (bytes_of_words words.now)) ≡ false → files.new ≡ files.old }
 
-    // The headline: if `compress` is done over a file and an output that are told, what was written is read
+    // The headline: if `compress` is done over a file and an output that are known, what was written is read
     // as the compressed network.
     ensures headline { result ≡ Status.Done → (file class : List ℕ) (number : ℕ) → bytes_of_words words.now ≡ codes "compress" ∷ file ∷ class ∷ [] → short_number_of class ≡ Some number
         → (text before : List ℕ) → S.contents files.old file ≡ Some text → O.taken out.old ≡ Some before → IsHeadline text number before (O.taken out.new) }
@@ -47,7 +47,7 @@ pub fn run<S: Source, O: Sink, E: Sink>(
     ensures canonical { result ≡ Status.Done → (file class : List ℕ) (number : ℕ) → bytes_of_words words.now ≡ codes "canon" ∷ file ∷ class ∷ [] → short_number_of class ≡ Some number
         → (text before : List ℕ) → S.contents files.old file ≡ Some text → O.taken out.old ≡ Some before → IsHeadline text number before (O.taken out.new) }
 
-    // If `fold` or `lift` is done over files and an output that are told, what was written is read as stable
+    // If `fold` or `lift` is done over files and an output that are known, what was written is read as stable
     // labels of the other problem that correspond to the solution.
     ensures folded { result ≡ Status.Done → (file class second : List ℕ) (number : ℕ) → bytes_of_words words.now ≡ codes "fold" ∷ file ∷ class ∷ second ∷ [] → short_number_of class ≡ Some number
         → (text solution before : List ℕ) → S.contents files.old file ≡ Some text → S.contents files.old second ≡ Some solution → O.taken out.old ≡ Some before
@@ -62,7 +62,7 @@ pub fn run<S: Source, O: Sink, E: Sink>(
     ensures out_later { O.faults out.old ≤ O.faults out.new }
     ensures err_later { E.faults err.old ≤ E.faults err.new }
 
-    // A fault has its cause, whether the files are told or not.
+    // A fault has its cause, whether the files are known or not.
     ensures read_fault { result ≡ Status.ReadFault → IsSome (command_of (bytes_of_words words.now))
         × (FirstRose (command_of (bytes_of_words words.now)) (S.faults files.old (file_of (bytes_of_words words.now))) (S.faults files.new (file_of (bytes_of_words words.now)))
         ⊎ SecondFailed (command_of (bytes_of_words words.now)) (S.contents files.old (file_of (bytes_of_words words.now))) (S.faults files.old (second_of (bytes_of_words words.now))) (S.faults files.new (second_of (bytes_of_words words.now)))) }

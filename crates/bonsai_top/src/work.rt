@@ -6,28 +6,24 @@ ghost use Rattle.cfg_ast.specs.text.Reading.{reading_of};
 ghost use Rattle.io_kit.specs.Ends.{Rose};
 ghost use Rattle.bonsai_top.specs.Commands.{reads_first, FirstRose, SecondRose};
 ghost use Rattle.bonsai_top.specs.Faults.{LeadsToSecond, ReadsSecondOf, SecondFailed};
-ghost use Rattle.answer_kit.specs.Networks.{text_limit, long_text};
-ghost use Rattle.answer_kit.specs.Outcome.{refused};
+ghost use Rattle.answer_kit.specs.Networks.{text_limit};
 ghost use Rattle.bonsai_top.specs.Outcomes.{IsOnNetwork, IsOnClass, IsOnSecond, IsAnswerTo, IsOutcomeOfReading, IsOutcomeOfFiles, IsOutcomeOf};
-ghost use Rattle.answer_kit.specs.Replies.{Answers, Only};
+ghost use Rattle.answer_kit.specs.Replies.{Answers};
 
 use crate::command::{ClassCommand, Command, NetworkCommand, SecondCommand};
 use answer_certificates::{certify, verify};
 use answer_groups::{canon, classes, compress, groups};
-use answer_kit::{Reply, class_of_number, refuse};
+use answer_kit::{Reply, class_of_number};
 use answer_reports::report::Form;
 use answer_reports::{report, summary, trial};
 use answer_runs::{reach, run};
 use answer_solutions::carry::Way;
 use answer_solutions::{carry, check};
-use answer_texts::network_in;
+use answer_texts::{TEXT_LIMIT, long_text, network_in};
 use cfg_ast::DestClass;
 use cfg_check::Checked;
 use io_kit::{InFault, Source, read_all};
 use std::alloc::Global;
-
-// A text has at most this many bytes.
-const TEXT_LIMIT: usize = 16_777_216;
 
 fn on_network(alloc: Global, command: NetworkCommand, checked: &Checked) -> Reply
     ensures { Answers result (IsOnNetwork command checked.now.network) ⊥ ⊥ }
@@ -127,12 +123,6 @@ fn over_text<S: Source>(
         Ok(checked) => answer(alloc, command, &checked, second, files),
         Err(reply) => reply,
     }
-}
-
-fn long_text(alloc: Global) -> Reply
-    ensures { Answers result (Only (refused long_text)) ⊥ ⊥ }
-{
-    refuse(format!(in alloc; "FileTooLong"))
 }
 
 // Reads the first file, and does the command's work.

@@ -1,4 +1,4 @@
--- What is told as a line alone.
+-- What is reported as a line alone.
 use Rattle.std.proofs.Common.{◌≡◌, ◌≢◌, ◌⊎◌, inl, ℕ, List, [], Option}
 use Rattle.io_kit.specs.Ends.{Rose, Took, TookPart}
 use Rattle.io_kit.proofs.Pieces.{took_nothing, part_nothing}

@@ -1,4 +1,4 @@
--- Public: from a finding that has its cause and was told to what the whole call does.
+-- Public: from a finding that has its cause and was reported to what the whole call does.
 use Rattle.std.proofs.Common.{◌≡◌, ◌≢◌, ◌⊎◌, inl, inr, ⊎_elim, ℕ, List, refl, ◌∙◌, ap, Option}
 use Rattle.endings.specs.declared.ending.Ending.{Ending}
 use Rattle.endings.specs.declared.ending.Ending.TheVariants.{WriteFault, Memory}
@@ -19,7 +19,7 @@ module _ (IsAllowed : Telling → Type 0) (first second : List ℕ) (first_rose 
   abbrev Whole : Telling → Type 0
   Whole o = IsWhole IsAllowed o result out_old out_new err_old err_new
 
-  -- without a fault of an output, it was told whole
+  -- without a fault of an output, it was reported whole
   ending_told : (o : Telling) → Told o → result ≢ WriteFault → result ≡ o.ending
   ending_told o told nw = ⊎_elim (λ e. e) (λ w. absurd (nw w)) told.ending
 

@@ -1,4 +1,4 @@
--- What a call has come to, and what is to be told of it.
+-- What a call has come to, and what is to be reported of it.
 use Rattle.std.specs.Prelude.{ℕ, List}
 use Rattle.endings.specs.declared.finding.Finding.{Finding}
 use Rattle.endings.specs.declared.finding.Finding.TheVariants.{Output, Refusal, Misuse, ReadFailed, SecondFailed, NoMemory}

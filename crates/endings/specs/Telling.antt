@@ -1,5 +1,6 @@
 -- What a call is to write, and the ending that it is to answer.
 use Rattle.std.specs.Prelude.{◌≡◌, ℕ, Bool, true, false, List, [], ◌∷◌, ◌++◌, codes}
+use Rattle.io_kit.specs.FaultLines.{read_fault_line, no_memory_line}
 use Rattle.endings.specs.declared.ending.Ending.{Ending}
 use Rattle.endings.specs.declared.ending.Ending.TheVariants.{Done, Refused, Usage, ReadFault, WriteFault, Memory, NotAll}
 
@@ -48,10 +49,7 @@ misuse usage = record { ending = Usage; out = []; err = usage }
 
 -- the file of this name could not be read
 abbrev pub read_fault : List ℕ → Telling
-read_fault name = record { ending = ReadFault; out = []; err = codes "read fault: " ++ name ++ 10 ∷ [] }
-
-abbrev pub no_memory_line : List ℕ
-no_memory_line = codes "out of memory\n"
+read_fault name = record { ending = ReadFault; out = []; err = read_fault_line name }
 
 -- memory ran out behind these bytes
 abbrev pub out_of_memory_behind : List ℕ → Telling
@@ -60,6 +58,3 @@ out_of_memory_behind bytes = record { ending = Memory; out = bytes; err = no_mem
 -- memory ran out before anything was written
 abbrev pub out_of_memory : Telling
 out_of_memory = out_of_memory_behind []
-
-abbrev pub write_fault_line : List ℕ
-write_fault_line = codes "write fault\n"

@@ -1,6 +1,6 @@
-//! What a call has come to, before it is told.
+//! What a call has come to, before it is reported.
 
-/// What a call has come to, before it is told.
+/// What a call has come to, before it is reported.
 #[derive(Drop)]
 pub enum Finding {
     /// The whole output, and whether every answer in it is good.

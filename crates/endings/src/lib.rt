@@ -2,7 +2,7 @@
 //!
 //! A program that answers a question for many classes, or about many solutions, has one end more than a
 //! command on one class: the work was done, and not every answer in it is good. `Finding` is what a call
-//! has come to, before it is told. `tell` writes it: an output whole, or a line on `err`.
+//! has come to, before it is reported. `tell` writes it: an output whole, or a line on `err`.
 #![tactic(auto)]
 
 mod ending;

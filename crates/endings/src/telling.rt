@@ -1,10 +1,11 @@
-//! How a finding is told to the outputs.
+//! How a finding is reported to the outputs.
 
 ghost use Rattle.std.specs.Prelude.{◌≡◌, ◌≢◌, ◌≤◌, ◌++◌, ◌⊎◌, OnOk, OnErr};
 ghost use Rattle.io_kit.specs.Ends.{Rose, Took, TookPart};
+ghost use Rattle.io_kit.specs.FaultLines.{no_memory_line, write_fault_line};
 ghost use Rattle.endings.specs.Findings.{told_by};
 ghost use Rattle.endings.specs.Meets.{Tells};
-ghost use Rattle.endings.specs.Telling.{output, no_memory_line, write_fault_line};
+ghost use Rattle.endings.specs.Telling.{output};
 
 use crate::ending::Ending;
 use crate::finding::Finding;

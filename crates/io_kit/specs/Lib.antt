@@ -1,5 +1,6 @@
 pub mod Calls
 pub mod Ends
+pub mod FaultLines
 pub mod Files
 pub mod SinkState
 pub mod SinkStates

@@ -8,9 +8,10 @@ use Rattle.answer_kit.specs.Kinds.{line_reason}
 use Rattle.answer_kit.specs.Networks.{text_limit, long_text, AllowsNoNetwork}
 use Rattle.answer_kit.specs.Networks as network
 use Rattle.answer_kit.specs.Outcome as outcome
+use Rattle.answer_kit.specs.Replies.{Only}
 use Rattle.endings.specs.declared.ending.Ending.TheVariants.{Refused}
 use Rattle.endings.specs.Telling.{Telling, refused}
-use Rattle.network_files.specs.NetworkFiles.{AllowsNothing, HoldsNetwork, IsOfFile, IsOfReading, IsOfText, Only}
+use Rattle.network_files.specs.NetworkFiles.{AllowsNothing, HoldsNetwork, IsOfFile, IsOfReading, IsOfText}
 
 -- a refusal of a text by its line and kind is one here too
 pub as_refused : (reading : Result Network ReadRefusal) (reason : List ℕ) → network.IsOfReading AllowsNoNetwork reading (outcome.refused reason)
@@ -19,8 +20,13 @@ as_refused (Ok n) reason is = is
 as_refused (Err (read_refusal.At line kind)) reason is = ap (λ (o : outcome.Outcome). record { ending = Refused; out = o.out; err = o.err }) is
 as_refused (Err read_refusal.Memory) reason is = is
 
+-- and so is that of a text that is too long
+pub as_long : (reason : List ℕ) → Only (outcome.refused long_text) (outcome.refused reason) → Only (refused long_text) (refused reason)
+as_long reason is = ap (λ (o : outcome.Outcome). record { ending = Refused; out = o.out; err = o.err }) is
+
 -- the file holds the network
-pub of_network : (A : Network → Telling → Type 0) (n : Network) (file : Option (List ℕ)) (o : Telling) → IfSome file (HoldsNetwork n) → A n o → IsOfFile A file o
+pub of_network : (A : Network → Telling → Type 0) (n : Network) (file : Option (List ℕ)) (o : Telling) → IfSome file (HoldsNetwork n) → A n o →
+    IsOfFile A file o
 of_network A n None o holds is = tt
 of_network A n (Some text) o holds is = inr (
   holds.short,

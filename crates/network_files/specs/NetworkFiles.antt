@@ -8,10 +8,6 @@ use Rattle.answer_kit.specs.Kinds.{line_reason}
 use Rattle.answer_kit.specs.Networks.{text_limit, long_text}
 use Rattle.endings.specs.Telling.{Telling, refused}
 
--- only this is allowed
-abbrev pub Only : Telling → Telling → Type 0
-Only allowed o = o ≡ allowed
-
 -- what is allowed of a network, or the line and kind that refuse its text
 abbrev pub IsOfReading : (Network → Telling → Type 0) → Result Network ReadRefusal → Telling → Type 0
 IsOfReading IsAllowed (Ok network) o = IsAllowed network o
@@ -22,7 +18,7 @@ IsOfReading IsAllowed (Err read_refusal.Memory) o = ⊥
 abbrev pub IsOfText : (Network → Telling → Type 0) → List ℕ → Telling → Type 0
 IsOfText IsAllowed text o = ((text_limit < length text) × (o ≡ refused long_text)) ⊎ ((length text ≤ text_limit) × IsOfReading IsAllowed (reading_of text) o)
 
--- The same of what a file holds. Where it is not told, anything is allowed.
+-- The same of what a file holds. Where it is not known, anything is allowed.
 abbrev pub IsOfFile : (Network → Telling → Type 0) → Option (List ℕ) → Telling → Type 0
 IsOfFile IsAllowed file o = IfSome file (λ text. IsOfText IsAllowed text o)
 

@@ -5,41 +5,31 @@
 ghost use Rattle.std.specs.Prelude.{◌≡◌, ◌≤◌, ℕ, List, IfOk, IfErr, IfSome, Result, length};
 ghost use Rattle.answer_kit.specs.Networks.{AllowsNoNetwork};
 ghost use Rattle.answer_kit.specs.Networks as network;
-ghost use Rattle.answer_kit.specs.Replies.{Answers};
+ghost use Rattle.answer_kit.specs.Outcome as outcome;
+ghost use Rattle.answer_kit.specs.Replies.{Answers, Only};
 ghost use Rattle.cfg_ast.specs.declared.network.Network.{Network};
 ghost use Rattle.cfg_ast.specs.declared.refusal.ReadRefusal.{ReadRefusal};
 ghost use Rattle.cfg_ast.specs.text.Reading.{reading_of};
 ghost use Rattle.endings.specs.Findings.{Finds};
 ghost use Rattle.endings.specs.Telling.{refused};
 ghost use Rattle.io_kit.specs.Ends.{Rose};
-ghost use Rattle.network_files.specs.NetworkFiles.{AllowsNothing, HoldsNetwork, IsOfFile, IsOfReading, Only};
+ghost use Rattle.network_files.specs.NetworkFiles.{AllowsNothing, HoldsNetwork, IsOfFile, IsOfReading};
 
 use answer_kit::Reply;
-use answer_texts::network_in;
+use answer_texts::{TEXT_LIMIT, long_text, network_in};
 use cfg_check::Checked;
 use endings::Finding;
 use io_kit::{InFault, Source, read_all};
 use std::alloc::Global;
 
-// A text has at most this many bytes.
-const TEXT_LIMIT: usize = 16_777_216;
-
 // What is found where a text gives no network: it is refused, or memory ran out.
 fn unread(reply: Reply) -> Finding
-    ensures { (reading : Result Network ReadRefusal) → Answers reply (network.IsOfReading AllowsNoNetwork reading) ⊥ ⊥ → Finds result (IsOfReading AllowsNothing reading) ⊥ ⊥ }
+    ensures text { (reading : Result Network ReadRefusal) → Answers reply (network.IsOfReading AllowsNoNetwork reading) ⊥ ⊥ → Finds result (IsOfReading AllowsNothing reading) ⊥ ⊥ }
+    ensures long { Answers reply (Only (outcome.refused network.long_text)) ⊥ ⊥ → Finds result (Only (refused network.long_text)) ⊥ ⊥ }
 {
     match reply {
         Reply::Refusal(reason) => Finding::Refusal(reason),
         _ => Finding::NoMemory,
-    }
-}
-
-fn long_text(alloc: Global) -> Finding
-    ensures { Finds result (Only (refused network.long_text)) ⊥ ⊥ }
-{
-    match Vec::from_slice(alloc, b"FileTooLong") {
-        Ok(reason) => Finding::Refusal(reason),
-        Err(_) => Finding::NoMemory,
     }
 }
 
@@ -64,7 +54,7 @@ pub fn network_of<S: Source>(alloc: Global, name: &str, files: &mut S) -> Result
 {
     match read_all(alloc, files, name, TEXT_LIMIT) {
         Ok(text) => network_of_text(alloc, &text),
-        Err(InFault::TooLong) => Err(long_text(alloc)),
+        Err(InFault::TooLong) => Err(unread(long_text(alloc))),
         Err(InFault::Failed) => Err(Finding::ReadFailed),
         Err(InFault::Memory) => Err(Finding::NoMemory),
     }

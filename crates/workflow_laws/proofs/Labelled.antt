@@ -1,4 +1,4 @@
--- What `check`, `reach` and `run` are to write of a problem: there is such an outcome for each second file that is told.
+-- What `check`, `reach` and `run` are to write of a problem: there is such an outcome for each second file that is known.
 use Rattle.std.proofs.Common.{◌≡◌, ◌⊎◌, inl, inr, ℕ, zero, suc, ◌<◌, ◌≤◌, List, [], ◌∷◌, ◌++◌, length, refl, sym, ap, subst, arith, Option, Some}
 use Rattle.std.proofs.Common.{None, Result, Ok, Err}
 use Rattle.std.specs.Prelude.{IsSome, replicate, slice_set}

@@ -149,7 +149,8 @@ only_one e bgp m same none Q below k c at = one_number m (λ p q i j. same_class
         let r = originator m p i in
         below p (contains_in e.class.prefixes p (originates_class e bgp r.0 (of_group e m r.0 same r.1) p r.2))
 
-pub class_is_kept : WhatIsReadIsWell → WrittenFits → FittingTextHasProblemOfGroups → FittingPlanFits → EmittedCanBePrinted → PrintedIsReadBack → QuotientIsQuotient
+pub class_is_kept : WhatIsReadIsWell → WrittenFits → FittingTextHasProblemOfGroups → FittingPlanFits → EmittedCanBePrinted → PrintedIsReadBack →
+    QuotientIsQuotient
     → ClassIsKept
 class_is_kept well written has_problem fits printed back is_quotient contents F large bytes N short holds x =
     let w = written_of well written contents F N short large holds bytes x in

@@ -225,7 +225,7 @@ module _ (laws : HasLaws) where
   some_trial size true = of_text laws.judged IsSummaryAnswer (fat_tree_text size) (some_summary laws (fat_tree_text size))
   some_trial size false = (refused (bad_size size), refl)
 
-  -- any outcome is allowed over a file that is not told
+  -- any outcome is allowed over a file that is not known
   of_files : (c : Command) (first second : Option (List ℕ)) → reads_first c ≡ true → (is_read reads_second (Some c) ≡ true → IsSome second)
       → SomeOf (IsOutcomeOfFiles c first second)
   of_files c None second reads told = (usage, tt)

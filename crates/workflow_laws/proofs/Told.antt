@@ -1,4 +1,4 @@
--- What is told of stable labels.
+-- What is reported of stable labels.
 use Rattle.std.proofs.Common.{◌≡◌, ◌≤◌, inl, inr, ℕ, List, length, sym, ap, ◌∙◌, subst, arith, Option, Some, Result, Ok, codes}
 use Rattle.srp_core.specs.declared.route.Route.{Route}
 use Rattle.srp_core.specs.Alike.{ProblemsAlike}

@@ -200,7 +200,8 @@ module _ (is_quotient : QuotientIsQuotient) (built : BuiltProblemIsOne) (n : Net
       ap (λ (q : Problem). q.edges) (built n class has s.problem t.original are.built t.built) ∙ t.edges in
       let small_is : small_of e.problem s.groups are.count ≡ small e =
       (λ j. small_of e.problem (groups j) (counts j)) ∙ sym (ap (quotient_problem e.problem e.groups e.count) t.is.links) in
-      let one = small_alike is_quotient s.problem own.rules s.groups are.count are.coarsest.admissible are.numbered (subst IsProblem are.small_is are.small_rules)
+      let one = small_alike is_quotient s.problem own.rules s.groups are.count are.coarsest.admissible are.numbered
+      (subst IsProblem are.small_is are.small_rules)
       e.problem alike edges in
       turned s.small (small e) (subst (λ (q : Problem). ProblemsAlike q (small e)) (sym are.small_is)
       (subst (λ (q : Problem). ProblemsAlike (small_of s.problem s.groups are.count) q) small_is one))

@@ -17,7 +17,7 @@ pub record AreCertificates (words : List (List ℕ)) (o p : Outcome) : Type 0 wh
   pub first_done : o.status ≡ Done
   pub second_done : p.status ≡ Done
 
--- Two outcomes that words allow over files that are told are equal, or they are two certificates. So each refusal of
+-- Two outcomes that words allow over files that are known are equal, or they are two certificates. So each refusal of
 -- `certify` is the only outcome that its words allow.
 abbrev pub OutcomesAgree : Type 0
 OutcomesAgree = (words : List (List ℕ)) (contents : Contents) → AreTold words contents
@@ -32,7 +32,7 @@ pub record HasOutcome (words : List (List ℕ)) (contents : Contents) : Type 0 w
 abbrev pub EachTextIsJudged : Type 0
 EachTextIsJudged = (text : List ℕ) → reading_of text ≢ Err Memory
 
--- For all words, and for all contents of the files that are told, some outcome is allowed. With
+-- For all words, and for all contents of the files that are known, some outcome is allowed. With
 -- `OutcomesAgree` it is the only one, except for the choice of a certificate.
 abbrev pub ThereIsAnOutcome : Type 0
 ThereIsAnOutcome = (words : List (List ℕ)) (contents : Contents) → AreTold words contents → HasOutcome words contents

@@ -12,7 +12,7 @@ use Rattle.answer_kit.specs.Outcome.{Outcome, done}
 use Rattle.bonsai_top.specs.Outcomes.{IsOutcome}
 use Rattle.workflow_laws.specs.Words.{canon, compress}
 
--- what the files hold, where it is told
+-- what the files hold, where it is known
 abbrev pub Contents : Type 0
 Contents = List ℕ → Option (List ℕ)
 

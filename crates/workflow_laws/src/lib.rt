@@ -2,7 +2,7 @@
 //!
 //! A person compresses a network, asks the small network and carries the answer back. Each law relates
 //! the outcome of one command to that of another, for all words and for all files whose contents are
-//! told. A law is the contract of a function that does nothing: whoever needs one calls it.
+//! known. A law is the contract of a function that does nothing: whoever needs one calls it.
 #![tactic(auto)]
 
 ghost use Rattle.workflow_laws.specs.Again.{CompressedAgain};

@@ -42,7 +42,8 @@ returns-in-Err-clause-meets g c =
     let finding = c.in-Err.finding in
     let asks = sym c.in-Some.ensures in
     let file_is = c.file_word-file.ensures in
-    let finds = subst (λ (file : List ℕ). Finds finding (IsOfFile AllowsNothing (contents file)) (Rose (old file) (new file)) ⊥) file_is c.in-Err.ensures.none in
+    let finds = subst (λ (file : List ℕ). Finds finding (IsOfFile AllowsNothing (contents file)) (Rose (old file) (new file)) ⊥) file_is c.in-Err.ensures.none
+    in
     let told = subst (λ (file : List ℕ). Tells (told_by finding usage_line file []) c.tell-in-Err.result (g.O.Sink.taken c.args.out.now)
     (g.O.Sink.taken c.tell-in-Err.new.out) (g.O.Sink.faults c.args.out.now) (g.O.Sink.faults c.tell-in-Err.new.out) (g.E.Sink.taken c.args.err.now)
     (g.E.Sink.taken c.tell-in-Err.new.err) (g.E.Sink.faults c.args.err.now) (g.E.Sink.faults c.tell-in-Err.new.err)) file_is c.tell-in-Err.ensures.tells in

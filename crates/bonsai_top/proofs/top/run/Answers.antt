@@ -41,7 +41,8 @@ pub returns-in-Some-clause-canonical : goal.returns-in-Some-clause-canonical
 returns-in-Some-clause-canonical g c = λ is file class number are short text before told taken.
     let words = bytes_of_words c.args.words.now in
     let contents = g.S.Source.contents c.args.files.now in
-    canonical words contents _ _ _ _ c.tell-in-Some.result _ _ _ _ _ _ _ _ (returns-in-Some-clause-meets g c) is c.fitting_plan_compresses.ensures c.canonical_fits.ensures number
+    canonical words contents _ _ _ _ c.tell-in-Some.result _ _ _ _ _ _ _ _
+    (returns-in-Some-clause-meets g c) is c.fitting_plan_compresses.ensures c.canonical_fits.ensures number
     (names_class words (codes "canon") file class number on_class.Canon are refl short) text before
     (first_told contents words (class ∷ []) (codes "canon") file text are told) taken
 

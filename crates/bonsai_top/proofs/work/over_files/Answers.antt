@@ -19,7 +19,8 @@ returns-in-Ok-clause-answers g c =
     let old = g.S.Source.faults c.args.files.now in
     let mid = g.S.Source.faults c.read_all.new.s in
     let new = g.S.Source.faults c.over_text.new.files in
-    let told = subst (λ (held : List ℕ → Option (List ℕ)). Answers c.over_text.result (IsOutcomeOfReading command (held second) (reading_of c.deref.result.now)) ⊥
+    let told = subst (λ (held : List ℕ → Option (List ℕ)). Answers c.over_text.result
+    (IsOutcomeOfReading command (held second) (reading_of c.deref.result.now)) ⊥
     (SecondRose (Some command) (mid second) (new second) × LeadsToSecond command c.deref.result.now)) read.contents c.over_text.ensures.answers in
     let answers = subst (λ (t : List ℕ). Answers c.over_text.result (IsOutcomeOfReading command (contents second) (reading_of t)) ⊥
     (SecondRose (Some command) (mid second) (new second) × LeadsToSecond command t)) c.deref.ensures.value told in

@@ -11,4 +11,5 @@ returns-in_default-clause-answers g c =
     let first = c.args.first.now in
     let second = c.args.second.now in
     answers_by_files c.over_files.result c.args.command (contents first) (contents second) (old first) (new first)
-    (SecondFailed (Some c.args.command) (contents first) (old second) (new second)) (reads_unless_trial c.args.command c.in_default.not-Trial) c.over_files.ensures.answers
+    (SecondFailed (Some c.args.command) (contents first) (old second) (new second))
+    (reads_unless_trial c.args.command c.in_default.not-Trial) c.over_files.ensures.answers
