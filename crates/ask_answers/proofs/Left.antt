@@ -17,7 +17,8 @@ neither : (p q : Bool) → (p || q) ≡ false → (p ≡ false) × (q ≡ false)
 neither true q none = absurd cc
 neither false q none = (refl, none)
 
-pub whole_left : (problem : Problem) → IsProblem problem → (routers links : List Bool) → (list_any (λ mark. mark) routers || list_any (λ mark. mark) links) ≡ false →
+pub whole_left : (problem : Problem) → IsProblem problem → (routers links : List Bool) →
+    (list_any (λ mark. mark) routers || list_any (λ mark. mark) links) ≡ false →
     IsWithout problem (marked_down routers links) problem
 whole_left problem rules routers links none =
     let parts = neither (list_any (λ mark. mark) routers) (list_any (λ mark. mark) links) none in

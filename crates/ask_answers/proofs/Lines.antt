@@ -38,21 +38,24 @@ one_line text line b is = ap (λ (asked : Bool). if asked then text_line text li
 
 -- ---- faults
 
-kind_none : (network : Network) (o : Option Request) (request : Request) → o ≡ Some request → request_fault network request ≡ None → kind_of_request network o ≡ None
+kind_none : (network : Network) (o : Option Request) (request : Request) → o ≡ Some request → request_fault network request ≡ None →
+    kind_of_request network o ≡ None
 kind_none network o request is none = ap (kind_of_request network) is ∙ ap (option_map fault_kind) none
 
 sound : (network : Network) (lines : List TextLine) (asked : List AskedLine) → Pairwise (IsAskedLine network) lines asked → lines_fault network lines ≡ None
 sound network [] asked are = refl
 sound network (line ∷ lines) [] are = absurd are
 sound network (line ∷ lines) (one ∷ asked) are =
-    ap (λ (kind : Option (List ℕ)). first_reason line.number kind (lines_fault network lines)) (kind_none network (request_of line.words) one.request are.0.request are.0.sound)
+    ap (λ (kind : Option (List ℕ)). first_reason line.number kind (lines_fault network lines))
+    (kind_none network (request_of line.words) one.request are.0.request are.0.sound)
     ∙ sound network lines asked are.1
 
 no_reason : (line : ℕ) (kind : Option (List ℕ)) (later : Option (List ℕ)) → first_reason line kind later ≡ None → (kind ≡ None) × (later ≡ None)
 no_reason line None later e = (refl, e)
 no_reason line (Some kind) later e = cc
 
-sound_before : (network : Network) (before behind : List TextLine) → lines_fault network before ≡ None → lines_fault network (before ++ behind) ≡ lines_fault network behind
+sound_before : (network : Network) (before behind : List TextLine) → lines_fault network before ≡ None →
+    lines_fault network (before ++ behind) ≡ lines_fault network behind
 sound_before network [] behind e = refl
 sound_before network (line ∷ before) behind e =
     let none = no_reason line.number (kind_of_request network (request_of line.words)) (lines_fault network before) e in
@@ -68,7 +71,8 @@ module _ (text : List ℕ) (lines : List Line) (i : ℕ) (line : Line) (inside :
   asked_too : asks (text_line text line) ≡ true → asking text (take (i + 1) lines) ≡ asking text (take i lines) ++ text_line text line ∷ []
   asked_too e = next ∙ ap (λ (ls : List TextLine). asking text (take i lines) ++ ls) (one_line text line true e)
 
-  pub passed : (network : Network) (asked : List AskedLine) → asks (text_line text line) ≡ false → Pairwise (IsAskedLine network) (asking text (take i lines)) asked
+  pub passed : (network : Network) (asked : List AskedLine) → asks (text_line text line) ≡ false →
+      Pairwise (IsAskedLine network) (asking text (take i lines)) asked
       → Pairwise (IsAskedLine network) (asking text (take (i + 1) lines)) asked
   passed network asked e are = subst (λ (ls : List TextLine). Pairwise (IsAskedLine network) ls asked)
       (sym (next ∙ ap (λ (ls : List TextLine). asking text (take i lines) ++ ls) (one_line text line false e) ∙ append-nil (asking text (take i lines)))) are
@@ -86,7 +90,8 @@ module _ (text : List ℕ) (lines : List Line) (i : ℕ) (line : Line) (inside :
       let before = asking text (take i lines) in
       let behind = asking text (drop (suc i) lines) in
       let here = text_line text line in
-      ap (λ (ls : List Line). lines_fault network (asking text ls)) (sym (take-append-drop i lines) ∙ ap (λ (ls : List Line). take i lines ++ ls) (drop-cons lines i line inside
+      ap (λ (ls : List Line). lines_fault network (asking text ls))
+      (sym (take-append-drop i lines) ∙ ap (λ (ls : List Line). take i lines ++ ls) (drop-cons lines i line inside
       ∙ ap (λ (l : Line). l ∷ drop (suc i) lines) (sym is)))
       ∙ ap (lines_fault network) (asking-append text (take i lines) (line ∷ drop (suc i) lines))
       ∙ sound_before network before (asking text (line ∷ drop (suc i) lines)) (sound network before asked are)
@@ -103,7 +108,8 @@ spans network (line ∷ lines) [] are = absurd are
 spans network (line ∷ lines) (one ∷ asked) are =
     All-cons (HasSpan network) one asked are.0.span (spans network lines asked are.1)
 
-as_line : (network : Network) (line : TextLine) (asked : AskedLine) (part : Part) → IsAskedLine network line asked → IsAskedReport network asked part → IsLineReport network line part
+as_line : (network : Network) (line : TextLine) (asked : AskedLine) (part : Part) → IsAskedLine network line asked → IsAskedReport network asked part →
+    IsLineReport network line part
 as_line network line asked part is report = record {
   request = asked.request;
   asked = is.request;
@@ -130,7 +136,8 @@ all_reported network text asked o are reports =
     (record { parts = reports.parts; are = as_lines network (asking_lines text) asked reports.parts are reports.are; written = reports.written })
 
 -- the file of questions, where a line is
-pub all_refused : (network : Network) (text reason : List ℕ) → lines_fault network (asking_lines text) ≡ Some reason → IsOfQuestions network text (refused reason)
+pub all_refused : (network : Network) (text reason : List ℕ) → lines_fault network (asking_lines text) ≡ Some reason →
+    IsOfQuestions network text (refused reason)
 all_refused network text reason fault =
     subst (λ (fault : Option (List ℕ)). IsOfLines fault network (asking_lines text) (refused reason)) (sym fault) refl
 

@@ -29,7 +29,8 @@ report_of shows network request span old new all is written = record {
 
 -- ---- findings
 
-pub reported : (network : Network) (request : Request) (bytes : List ℕ) (all : Bool) → Writes (IsReport (names_one request.classes) network request) [] bytes all
+pub reported : (network : Network) (request : Request) (bytes : List ℕ) (all : Bool) →
+    Writes (IsReport (names_one request.classes) network request) [] bytes all
     → IsReportTold network request (output all bytes)
 reported network request bytes all written = record {
   report = written.part;

@@ -59,7 +59,8 @@ holding_within all zero addr place e = having_within all (cut_to 0 addr) place e
 holding_within all (suc len) addr place e = holding_or all (cut_to (suc len) addr) (place_holding all len addr) (place_having all (cut_to (suc len) addr)) place
     refl (λ some. holding_within all len addr place some) e
 
-one_within : (all : List DestClass) (o : Option ℕ) (span : Span) → ((place : ℕ) → o ≡ Some place → place + 1 ≤ length all) → option_map one_at o ≡ Some span → span.upto ≤ length all
+one_within : (all : List DestClass) (o : Option ℕ) (span : Span) → ((place : ℕ) → o ≡ Some place → place + 1 ≤ length all) → option_map one_at o ≡ Some span →
+    span.upto ≤ length all
 one_within all None span within e = absurd (none_some span e)
 one_within all (Some place) span within e =
     subst (λ (upto : ℕ). upto ≤ length all) (ap (λ (s : Span). s.upto) (some_same (one_at place) span e)) (within place refl)

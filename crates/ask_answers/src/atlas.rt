@@ -12,11 +12,21 @@ use numbered_names::NamePlaces;
 use std::alloc::Global;
 
 /// The classes of a network, what their problems share, and the places of the routers' names.
-#[derive(Drop)]
 pub struct Atlas {
     pub classes: List<DestClass>,
     pub shared: Shared,
     pub places: NamePlaces,
+}
+
+// One call where an atlas is dropped, in place of the drops of all its parts.
+impl Drop for Atlas {
+    fn drop(self) {
+        let Atlas {
+            classes: _classes,
+            shared: _shared,
+            places: _places,
+        } = self;
+    }
 }
 
 impl Atlas {

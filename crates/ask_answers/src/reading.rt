@@ -58,6 +58,7 @@ fn asked_line(
             span,
         })),
         Err(fault) => {
+            drop(request);
             let reason = reason(alloc, number, fault.kind())?;
             Ok(Err(reason))
         }

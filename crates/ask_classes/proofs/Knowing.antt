@@ -25,7 +25,8 @@ use Rattle.ask_classes.proofs.Losses.{asked_of_left}
 
 -- ---- one link more
 
-at_set : (marks : List Bool) (place k : ℕ) → place < length marks → slice_index_or (slice_set marks place true) k false ≡ (nat_eq k place || slice_index_or marks k false)
+at_set : (marks : List Bool) (place k : ℕ) → place < length marks →
+    slice_index_or (slice_set marks place true) k false ≡ (nat_eq k place || slice_index_or marks k false)
 at_set marks place k inside = elim (cases_eq k place) [
   | inl same ↦ subst (λ (n : ℕ). slice_index_or (slice_set marks place true) n false ≡ (nat_eq n place || slice_index_or marks n false)) (sym same)
       (get_or-set_same marks place true false inside ∙ ap (λ (b : Bool). b || slice_index_or marks place false) (sym (eq-eqb place place refl)))
@@ -65,7 +66,8 @@ also_without whole left other routers links place inside first second = record {
   acts = second.acts ∙ first.acts;
   init = λ u. second.init u ∙ first.init u;
   edges = second.edges ∙ ap (filter (is_left (link_down place))) first.edges
-      ∙ filtered (is_left (marked_down routers links)) (is_left (link_down place)) (is_left (marked_down routers (slice_set links place true))) is_both whole.edges;
+      ∙ filtered (is_left (marked_down routers links)) (is_left (link_down place))
+      (is_left (marked_down routers (slice_set links place true))) is_both whole.edges;
 }
   where
     is_both : (e : Edge) → is_left (marked_down routers (slice_set links place true)) e ≡ (is_left (marked_down routers links) e && is_left (link_down place) e)
@@ -96,7 +98,8 @@ kept_no names down (asked.Avoids way of) e = absurd cc
 kept_no names down (asked.Carries community of) e = tt
 kept_no names down (asked.Lacks community of) e = tt
 
-kept_for : (names : List (List ℕ)) (down : Down) (asks : AskedOf) (verdict : Verdict) → keeps_verdict asks verdict ≡ true → IsVerdictKept (question_for names down asks) verdict
+kept_for : (names : List (List ℕ)) (down : Down) (asks : AskedOf) (verdict : Verdict) → keeps_verdict asks verdict ≡ true →
+    IsVerdictKept (question_for names down asks) verdict
 kept_for names down asks Yes e = tt
 kept_for names down asks No e = kept_no names down asks e
 kept_for names down asks NoSolution e = absurd cc
@@ -121,7 +124,8 @@ at_inside : (tied : Option ℕ) (bound : ℕ) → IfSome tied (λ u. u < bound) 
 at_inside None bound inside = tt
 at_inside (Some router) bound inside = inside
 
-told_inside : (verdict : Verdict) (tied : Option ℕ) (bound : ℕ) → IfSome tied (λ u. u < bound) → IfSome (tie_beside verdict tied) (λ (t : Tie). t.router < bound)
+told_inside : (verdict : Verdict) (tied : Option ℕ) (bound : ℕ) → IfSome tied (λ u. u < bound) →
+    IfSome (tie_beside verdict tied) (λ (t : Tie). t.router < bound)
 told_inside Yes tied bound inside = at_inside tied bound inside
 told_inside No tied bound inside = tt
 told_inside NoSolution tied bound inside = at_inside tied bound inside
@@ -129,7 +133,8 @@ told_inside NoSolution tied bound inside = at_inside tied bound inside
 -- ---- the trial
 
 abbrev pub question_left : Asking → Question
-question_left asking = question_for asking.problems.now.whole.now.names (marked_down asking.scene.now.routers_down.now asking.scene.now.links_down.now) asking.asks.now
+question_left asking = question_for asking.problems.now.whole.now.names
+    (marked_down asking.scene.now.routers_down.now asking.scene.now.links_down.now) asking.asks.now
 
 pub is_known : SpareLinksKeepVerdicts → (asking : Asking) → IsAsking asking → (verdict : Verdict) → keeps_verdict asking.asks.now verdict ≡ true →
     IsVerdict asking.problems.now.left.now (IsTrueIn (question_left asking) asking.problems.now.left.now) verdict → (marks : List Bool) (tied : Option ℕ) →
@@ -147,7 +152,8 @@ is_known law asking is verdict keeps holds marks tied found place loss less mark
     let as_many = is.scene.each_link in
     let is_asked = asked_of_left whole left down down asks (question_left asking) is.scene.left refl in
     let told = tie_beside verdict tied in
-    let stays = law left found.labels marks tied place (question_left asking) verdict found.are marked is_asked (kept_for whole.names down asks verdict keeps) holds in
+    let stays = law left found.labels marks tied place (question_left asking) verdict found.are marked is_asked
+    (kept_for whole.names down asks verdict keeps) holds in
     let without = also_without whole left stays.other routers links place (omega arith) is.scene.left stays.without in
     let many : count stays.other ≡ count left = ap (λ (ns : List ℕ). length ns) stays.without.numbers in
     let answer : IsAnswer stays.other (question_left asking) verdict told = record {

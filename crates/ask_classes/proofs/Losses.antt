@@ -24,7 +24,9 @@ abbrev pub router_left : Asking → ℕ × List ℕ → Bool
 router_left asking = is_router_left asking.scene.now.routers_down.now
 
 -- a question about routers that are named is asked of routers of what is left
-pub asked_of_left : (whole other : Problem) (lost down : Down) (asks : AskedOf) (question : Question) → IsWithout whole lost other → question ≡ question_for whole.names down asks →
+pub asked_of_left : (whole other : Problem) (lost down : Down) (asks : AskedOf) (question : Question) → IsWithout whole lost other →
+    question ≡ question_for whole.names down asks →
     IsAskedOf other question
 asked_of_left whole other lost down asks question without is =
-    subst (IsAskedOf other) (sym is) (asked_of_problem other whole.names down asks (ap (λ (ns : List (List ℕ)). length ns) (sym without.names) ∙ without.rules.tables.names))
+    subst (IsAskedOf other) (sym is) (asked_of_problem other whole.names down asks
+    (ap (λ (ns : List (List ℕ)). length ns) (sym without.names) ∙ without.rules.tables.names))

@@ -19,7 +19,8 @@ use Rattle.ask_classes.specs.declared.tally.Tally.{Tally}
 use Rattle.ask_classes.proofs.Trying.{all_pass}
 
 -- the line of an answer, and what is shown behind it
-pub answer_written : (shows : Bool) (number : ℕ) (asked : Question) (problem : Problem) (verdict : Verdict) (tied : Option Tie) (old mid new line shown : List ℕ) →
+pub answer_written : (shows : Bool) (number : ℕ) (asked : Question) (problem : Problem) (verdict : Verdict) (tied : Option Tie)
+    (old mid new line shown : List ℕ) →
     IsAnswer problem asked verdict tied → IsShown shows verdict problem asked shown → line ≡ answer_line problem.names number verdict tied →
     mid ≡ old ++ line → new ≡ mid ++ shown → WritesAnswer shows number asked problem old new verdict
 answer_written shows number asked problem verdict tied old mid new line shown answer is_shown told first second = record {
@@ -33,8 +34,10 @@ answer_written shows number asked problem verdict tied old mid new line shown an
 }
 
 -- the answer, the lines of those that failed, and the last line
-pub failing_written : (asks : AskedOf) (number : ℕ) (whole : Problem) (down : Down) (losses : List Loss) (problem : Problem) (old first second new : List ℕ) (holds none : Bool) (tally : Tally) →
-    problem.names ≡ whole.names → Writes (IsAnswerPart false number (question_for whole.names down asks) problem) old first holds → WritesTrials whole asks losses first second tally →
+pub failing_written : (asks : AskedOf) (number : ℕ) (whole : Problem) (down : Down) (losses : List Loss) (problem : Problem) (old first second new : List ℕ)
+    (holds none : Bool) (tally : Tally) →
+    problem.names ≡ whole.names → Writes (IsAnswerPart false number (question_for whole.names down asks) problem) old first holds →
+    WritesTrials whole asks losses first second tally →
     ((trials : List Trial) → IsTally trials tally → new ≡ second ++ failing_line number trials) → none ≡ nat_eq tally.failed 0 →
     Writes (IsFailingPart asks number whole down losses problem) old new (holds && none)
 failing_written asks number whole down losses problem old first second new holds none tally names answer written last is_none =
@@ -55,7 +58,8 @@ failing_written asks number whole down losses problem old first second new holds
         tried = written.tried;
         bytes = ap (λ (t : List ℕ). t ++ trials_text number losses trials) line;
         all = ap (λ (b : Bool). b && none) (answer.all_is ∙ one.all)
-            ∙ ap (λ (b : Bool). is_yes one.verdict && b) (is_none ∙ ap (λ (n : ℕ). nat_eq n 0) written.counted.failed ∙ sym (all_pass (λ (t : Trial). is_yes t.verdict) trials));
+            ∙ ap (λ (b : Bool). is_yes one.verdict && b) (is_none ∙ ap (λ (n : ℕ). nat_eq n 0) written.counted.failed
+            ∙ sym (all_pass (λ (t : Trial). is_yes t.verdict) trials));
       };
       bytes = last trials written.counted ∙ ap (λ (t : List ℕ). t ++ failing_line number trials) (written.bytes ∙ ap (λ (t : List ℕ). t ++ lines) answer.bytes)
           ∙ append_assoc (old ++ part.bytes) lines (failing_line number trials) ∙ append_assoc old part.bytes (lines ++ failing_line number trials);

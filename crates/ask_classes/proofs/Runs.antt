@@ -27,11 +27,13 @@ rank_after : (links : List Link) (place first : ℕ) (link : Link) → first ≤
     count_by (has_same_ends link) (slice_range links first (place + 1)) ≡ link_rank links place link
 rank_after links place first link inside none =
     let sum : first + (place + 1 - first) ≡ place + 1 = omega (arith, inside) in
-    let total : link_rank links place link ≡ count_by (has_same_ends link) (take first links) + count_by (has_same_ends link) (slice_range links first (place + 1)) =
+    let total : link_rank links place link ≡ count_by (has_same_ends link) (take first links) + count_by (has_same_ends link)
+    (slice_range links first (place + 1)) =
     ap (λ (k : ℕ). count_by (has_same_ends link) (take k links)) (sym sum) ∙ ap (count_by (has_same_ends link)) (take-add first (place + 1 - first) links)
     ∙ sum_by-append (λ (o : Link). cond (has_same_ends link o) 1 0) (take first links) (take (place + 1 - first) (drop first links)) in
     omega (arith, total, none)
 
 pub rank_of_run : (links : List Link) (place first highest : ℕ) (link : Link) → first ≤ place + 1 → highest ≤ link.low → AreBelow highest (take first links) →
     count_by (has_same_ends link) (slice_range links first (place + 1)) ≡ link_rank links place link
-rank_of_run links place first highest link inside above below = rank_after links place first link inside (none_between link highest (take first links) above below)
+rank_of_run links place first highest link inside above below =
+    rank_after links place first link inside (none_between link highest (take first links) above below)

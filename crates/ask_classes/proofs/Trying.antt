@@ -15,7 +15,8 @@ use Rattle.ask_classes.specs.Tries.{IsTally, WritesTrials, TriesLoss, StepsOver,
 use Rattle.solution_answers.specs.declared.answering.Answer.{Answer}
 use Rattle.ask_classes.specs.declared.tally.Tally.{Tally}
 
-pairs_more : {X Y : Type 0} (R : X → Y → Type 0) (xs : List X) (ys : List Y) (x : X) (y : Y) → Pairwise R xs ys → zip (xs ++ x ∷ []) (ys ++ y ∷ []) ≡ zip xs ys ++ (x, y) ∷ []
+pairs_more : {X Y : Type 0} (R : X → Y → Type 0) (xs : List X) (ys : List Y) (x : X) (y : Y) → Pairwise R xs ys →
+    zip (xs ++ x ∷ []) (ys ++ y ∷ []) ≡ zip xs ys ++ (x, y) ∷ []
 pairs_more R [] [] x y are = refl
 pairs_more R [] (z ∷ ys) x y are = absurd are
 pairs_more R (w ∷ xs) [] x y are = absurd are
@@ -32,7 +33,8 @@ tally_more trials trial tally counted = record {
   tied = ap (λ n. n + cond (is_some trial.tied) 1 0) counted.tied ∙ sym (sum_by_push (λ (t : Trial). cond (is_some t.tied) 1 0) trials trial);
 }
 
-one_tried : (whole : Problem) (asks : AskedOf) (losses : List Loss) (loss : Loss) (old mid new : List ℕ) (tally more : Tally) → WritesTrials whole asks losses old mid tally →
+one_tried : (whole : Problem) (asks : AskedOf) (losses : List Loss) (loss : Loss) (old mid new : List ℕ) (tally more : Tally) →
+    WritesTrials whole asks losses old mid tally →
     TriesLoss whole asks loss mid new tally more → WritesTrials whole asks (losses ++ loss ∷ []) old new more
 one_tried whole asks losses loss old mid new tally more before one = record {
   trials = before.trials ++ one.trial ∷ [];
@@ -49,7 +51,8 @@ loss_tried : {X : Type 0} (whole : Problem) (asks : AskedOf) (f : X → Loss) (p
     WritesTrials whole asks (map f (filter p xs)) old mid tally → StepsOver whole asks (p x) (f x) mid new tally more →
     WritesTrials whole asks (map f (filter p (xs ++ x ∷ []))) old new more
 loss_tried {X} whole asks f p xs x old mid new tally more before step =
-    subst (λ (ls : List Loss). WritesTrials whole asks ls old new more) (sym (ap (map f) (filter-append p xs (x ∷ [])) ∙ map-append f (filter p xs) (filter p (x ∷ []))))
+    subst (λ (ls : List Loss). WritesTrials whole asks ls old new more)
+    (sym (ap (map f) (filter-append p xs (x ∷ [])) ∙ map-append f (filter p xs) (filter p (x ∷ []))))
     (by (p x) step)
   where
     by : (b : Bool) → StepsOver whole asks b (f x) mid new tally more → WritesTrials whole asks (map f (filter p xs) ++ map f (cond b (x ∷ []) [])) old new more
@@ -64,8 +67,10 @@ abbrev pub losses_upto : {X : Type 0} → (ℕ × X → Loss) → (ℕ × X → 
 losses_upto f p xs i = map f (filter p (enumerate_from 0 (take i xs)))
 
 -- one more item
-pub item_tried : {X : Type 0} (whole : Problem) (asks : AskedOf) (f : ℕ × X → Loss) (p : ℕ × X → Bool) (xs : List X) (i : ℕ) (d : X) (old mid new : List ℕ) (tally more : Tally) →
-    i < length xs → WritesTrials whole asks (losses_upto f p xs i) old mid tally → StepsOver whole asks (p (i, get_or xs i d)) (f (i, get_or xs i d)) mid new tally more →
+pub item_tried : {X : Type 0} (whole : Problem) (asks : AskedOf) (f : ℕ × X → Loss) (p : ℕ × X → Bool) (xs : List X) (i : ℕ) (d : X) (old mid new : List ℕ)
+    (tally more : Tally) →
+    i < length xs → WritesTrials whole asks (losses_upto f p xs i) old mid tally →
+    StepsOver whole asks (p (i, get_or xs i d)) (f (i, get_or xs i d)) mid new tally more →
     WritesTrials whole asks (losses_upto f p xs (i + 1)) old new more
 item_tried {X} whole asks f p xs i d old mid new tally more inside before step =
     let x : X = get_or xs i d in
@@ -78,7 +83,8 @@ item_tried {X} whole asks f p xs i d old mid new tally more inside before step =
 
 -- all items
 pub all_tried : {X : Type 0} (whole : Problem) (asks : AskedOf) (f : ℕ × X → Loss) (p : ℕ × X → Bool) (xs : List X) (i : ℕ) (old new : List ℕ) (tally : Tally) →
-    length xs ≤ i → WritesTrials whole asks (losses_upto f p xs i) old new tally → WritesTrials whole asks (map f (filter p (enumerate_from 0 xs))) old new tally
+    length xs ≤ i → WritesTrials whole asks (losses_upto f p xs i) old new tally →
+    WritesTrials whole asks (map f (filter p (enumerate_from 0 xs))) old new tally
 all_tried {X} whole asks f p xs i old new tally past written =
     subst (λ (ys : List X). WritesTrials whole asks (map f (filter p (enumerate_from 0 ys))) old new tally) (take_all i xs past) written
 
@@ -92,7 +98,8 @@ pub tried_few : {X : Type 0} (whole : Problem) (asks : AskedOf) (f : ℕ × X �
     i < length xs → WritesTrials whole asks (losses_upto f p xs i) old new tally → tally.tried ≤ i
 tried_few whole asks f p xs i old new tally inside written =
     let numbered = enumerate_from 0 (take i xs) in
-    let as_losses : tally.tried ≡ length (losses_upto f p xs i) = written.counted.tried ∙ as_many (IsTried whole asks) (losses_upto f p xs i) written.trials written.tried in
+    let as_losses : tally.tried ≡ length (losses_upto f p xs i) = written.counted.tried
+    ∙ as_many (IsTried whole asks) (losses_upto f p xs i) written.trials written.tried in
     let mapped : length (losses_upto f p xs i) ≡ length (filter p numbered) = length-map (filter p numbered) f in
     let passed : length (filter p numbered) ≡ count_by p numbered = length-filter p numbered in
     let few : count_by p numbered ≤ length numbered = count_by-le-length p numbered in

@@ -66,7 +66,7 @@ pub record IsTried (whole : Problem) (asks : AskedOf) (loss : Loss) (trial : Tri
   pub without : IsWithout whole loss.down other
   pub answer : IsAnswer other (question_for whole.names loss.down asks) trial.verdict trial.tied
 
--- ---- how it is told
+-- ---- how it is reported
 
 -- a line where the answer is not `yes`
 abbrev pub trial_line : Loss × Trial → List ℕ

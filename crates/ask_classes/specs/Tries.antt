@@ -33,7 +33,7 @@ with_trial tally trial = record {
 abbrev pub trial_of : Answer → Trial
 trial_of answer = record { verdict = answer.verdict; tied = answer.tie }
 
--- the loss is tried, and told
+-- the loss is tried and reported
 pub record TriesLoss (whole : Problem) (asks : AskedOf) (loss : Loss) (old new : List ℕ) (tally more : Tally) : Type 0 where
   pub trial : Trial
   pub tried : IsTried whole asks loss trial

@@ -5,7 +5,7 @@ use Rattle.std.specs.List.{list_any}
 use Rattle.std.proofs.lemmas.List.Folds.{list_any_more}
 use Rattle.cfg_ast.specs.declared.topology.Link.{Link}
 use Rattle.numbered_names.proofs.Firsts.{any_same, bytes_eq-sym}
-use Rattle.numbered_names.specs.NameSets.{has_name, Adds}
+use Rattle.numbered_names.specs.NameSets.{has_name, AddsName}
 use Rattle.numbered_names.specs.declared.sets.NameSet.{NameSet}
 use Rattle.ask_words.specs.declared.request.Lost.{Lost}
 use Rattle.ask_words.specs.declared.request.Lost.TheVariants as lost
@@ -47,7 +47,7 @@ and_turned false false = refl
 
 -- ---- one more item in a set
 
-pub with_router : (old new : NameSet) (item : Lost) (name down : List ℕ) → Adds old new name → item ≡ lost.Router down → name ≡ down →
+pub with_router : (old new : NameSet) (item : Lost) (name down : List ℕ) → AddsName old new name → item ≡ lost.Router down → name ≡ down →
     (other : List ℕ) → has_name new other ≡ (has_name old other || is_router_lost other item)
 with_router old new item name down adds is same other =
     adds.each other

@@ -27,7 +27,8 @@ map_on f g (x ∷ xs) = ap (λ rest. f (g x) ∷ rest) (map_on f g xs)
 
 -- ---- numbers that pass a test
 
-next_number : (p : ℕ → Bool) (place left : ℕ) → filter p (range_with_len place (suc left)) ≡ cond (p place) (place ∷ filter p (range_with_len (place + 1) left)) (filter p (range_with_len (place + 1) left))
+next_number : (p : ℕ → Bool) (place left : ℕ) → filter p (range_with_len place (suc left)) ≡
+    cond (p place) (place ∷ filter p (range_with_len (place + 1) left)) (filter p (range_with_len (place + 1) left))
 next_number p place left = refl
 
 pub passed_number : (p : ℕ → Bool) (made all : List ℕ) (place n : ℕ) → place < n → p place ≡ true → made ++ filter p (range_with_len place (n - place)) ≡ all →

@@ -21,7 +21,8 @@ lost_of network routers items same =
     ap (map (λ (router : Router). list_any (is_router_lost router.name) items)) same
     ∙ map_on (λ name. list_any (is_router_lost name) items) (λ (router : Router). router.name) network.routers
 
-pub every_of : (network : Network) (routers : List Router) → routers ≡ network.routers → map (λ (router : Router). true) routers ≡ named_marks (names_of network) Every
+pub every_of : (network : Network) (routers : List Router) → routers ≡ network.routers →
+    map (λ (router : Router). true) routers ≡ named_marks (names_of network) Every
 every_of network routers same = ap (map (λ (router : Router). true)) same ∙ map_on (λ (name : List ℕ). true) (λ (router : Router). router.name) network.routers
 
 pub placed_of : (network : Network) (routers : List Router) (names : List (List ℕ)) → routers ≡ network.routers →

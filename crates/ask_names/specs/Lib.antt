@@ -1,3 +1,4 @@
+pub mod LinkLookups
 pub mod Marks
 pub mod NamePairs
 pub mod Networks

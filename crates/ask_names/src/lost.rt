@@ -3,6 +3,7 @@
 ghost use Rattle.std.specs.Prelude.{◌≡◌, ◌||◌, ℕ, List, IfOk, OnOk};
 ghost use Rattle.std.specs.List.{list_any};
 ghost use Rattle.numbered_names.specs.NameSets.{has_name};
+ghost use Rattle.ask_names.specs.LinkLookups.{LooksUp};
 ghost use Rattle.ask_names.specs.NamePairs.{has_pair};
 ghost use Rattle.ask_names.specs.Networks.{names_of};
 ghost use Rattle.ask_names.specs.Routers.{name_at, is_router_lost, names_pair, joins_names, is_link_lost, routers_lost, links_lost};
@@ -101,22 +102,6 @@ fn is_among_items(network: &Network, link: &Link, items: &[Lost]) -> bool
     items.iter().any(|item| is_link_lost(network, link, item))
 }
 
-#[tactic(auto, unfolding(crate::specs::Routers::links_lost))]
-fn links_among_items(
-    alloc: Global,
-    network: &Network,
-    links: &[Link],
-    items: &[Lost],
-) -> Result<Vec<bool>, NoMemory>
-    ensures { IfOk result (λ marks. marks.items ≡ links_lost (names_of network.now) links.now items.now) }
-{
-    let mut marks = Vec::with_capacity(alloc, links.len())?;
-    for link in links {
-        marks.push(is_among_items(network, link, items))?;
-    }
-    Ok(marks)
-}
-
 fn put_pair<'a>(pairs: &mut NamePairs<'a>, item: &'a Lost) -> Result<(), NoMemory>
     ensures { OnOk result ((first second : List ℕ) → has_pair pairs.new first second ≡ (has_pair pairs.old first second || names_pair first second item.now)) }
 {
@@ -149,27 +134,40 @@ fn is_among_pairs(network: &Network, link: &Link, pairs: &NamePairs) -> bool
     pairs.has_either(low, high)
 }
 
-#[tactic(auto, unfolding(crate::specs::Routers::links_lost))]
-fn links_among_pairs(
-    alloc: Global,
-    network: &Network,
-    links: &[Link],
-    items: &[Lost],
-) -> Result<Vec<bool>, NoMemory>
-    ensures { IfOk result (λ marks. marks.items ≡ links_lost (names_of network.now) links.now items.now) }
-{
-    let pairs = pairs_in(alloc, items)?;
-    let mut marks = Vec::with_capacity(alloc, links.len())?;
-    for link in links {
-        marks.push(is_among_pairs(network, link, &pairs))?;
-    }
-    Ok(marks)
-}
-
 // Up to so many items are compared with each link. More are put into a set of pairs.
 const FEW: usize = 8;
 
+// How links are looked up among the items.
+#[derive(Drop)]
+enum LinkLookup<'a> {
+    Listed(&'a [Lost]),
+    Hashed(NamePairs<'a>),
+}
+
+impl<'a> LinkLookup<'a> {
+    fn of(alloc: Global, items: &'a [Lost]) -> Result<Self, NoMemory>
+        ensures { IfOk result (λ lookup. LooksUp lookup items.now) }
+    {
+        if items.len() <= FEW {
+            return Ok(LinkLookup::Listed(items));
+        }
+        let pairs = pairs_in(alloc, items)?;
+        Ok(LinkLookup::Hashed(pairs))
+    }
+
+    // Whether one of the items takes the link down.
+    fn has(&self, network: &Network, link: &Link) -> bool
+        ensures { (items : List Lost) → LooksUp self.now items → result ≡ list_any (is_link_lost (names_of network.now) link.now) items }
+    {
+        match self {
+            LinkLookup::Listed(items) => is_among_items(network, link, items),
+            LinkLookup::Hashed(pairs) => is_among_pairs(network, link, pairs),
+        }
+    }
+}
+
 /// For each link, whether it is down.
+#[tactic(auto, unfolding(crate::specs::Routers::links_lost))]
 pub fn links_lost(
     alloc: Global,
     network: &Network,
@@ -178,8 +176,10 @@ pub fn links_lost(
 ) -> Result<Vec<bool>, NoMemory>
     ensures { IfOk result (λ marks. marks.items ≡ links_lost (names_of network.now) links.now items.now) }
 {
-    if items.len() <= FEW {
-        return links_among_items(alloc, network, links, items);
+    let lookup = LinkLookup::of(alloc, items)?;
+    let mut marks = Vec::with_capacity(alloc, links.len())?;
+    for link in links {
+        marks.push(lookup.has(network, link))?;
     }
-    links_among_pairs(alloc, network, links, items)
+    Ok(marks)
 }

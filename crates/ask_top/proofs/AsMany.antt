@@ -26,7 +26,8 @@ abbrev AreApart : {X : Type 0} → (X → X → Type 0) → List X → Type 0
 AreApart S [] = Unit {0}
 AreApart {X} S (x ∷ xs) = ((z y : X) → In xs z → S x y → S z y → ⊥) × AreApart S xs
 
-are_apart : {X : Type 0} (S : X → X → Type 0) (xs : List X) → ((i j : ℕ) (x z y : X) → i < j → slice_get xs i ≡ Some x → slice_get xs j ≡ Some z → S x y → S z y → ⊥) → AreApart S xs
+are_apart : {X : Type 0} (S : X → X → Type 0) (xs : List X) →
+    ((i j : ℕ) (x z y : X) → i < j → slice_get xs i ≡ Some x → slice_get xs j ≡ Some z → S x y → S z y → ⊥) → AreApart S xs
 are_apart S [] apart = tt
 are_apart S (x ∷ xs) apart = (
   λ z y at s t. (let k = in_get xs z at in apart 0 (suc k.0) x z y (omega arith) refl k.1 s t),
@@ -71,7 +72,8 @@ module _ (P Q : Problem) (same : ProblemsAlike P Q) (xs ys : List (List (Option 
       (m.member, in_contains ys m.member m.inside, m.keys)
 
   no_more : length xs ≤ length ys
-  no_more = as_few (HaveEqualKeys Q) xs ys goes_with (are_apart (HaveEqualKeys Q) xs (λ i j x z y less at_x at_z s t. a.apart i j x z less at_x at_z (meet x y z s t)))
+  no_more = as_few (HaveEqualKeys Q) xs ys goes_with (are_apart (HaveEqualKeys Q) xs
+      (λ i j x z y less at_x at_z s t. a.apart i j x z less at_x at_z (meet x y z s t)))
 
 pub as_many : (P Q : Problem) → ProblemsAlike P Q → (xs ys : List (List (Option Route))) → AreAllSolutions P xs → AreAllSolutions Q ys → length xs ≡ length ys
 as_many P Q same xs ys a b =

@@ -1,4 +1,4 @@
--- The words allow one outcome over files that are told, except for what is free.
+-- The words allow one outcome over files that are known, except for what is free.
 use Rattle.std.proofs.Common.{◌≡◌, ◌≤◌, ◌<◌, ◌⊎◌, inl, inr, ℕ, Bool, true, List, [], ◌∷◌, length, refl, sym, ap, ◌∙◌, subst, arith, Option, Some, None, Result, Ok, Err}
 use Rattle.std.specs.Prelude.{IfSome, IsSome}
 use Rattle.cfg_ast.specs.declared.classes.DestClass.{DestClass}
@@ -66,7 +66,7 @@ one_of_questions n text o p (inr a) (inr b) = one_of_lines n (asking_lines text)
 
 -- ---- a command over a network
 
--- a file of questions is told
+-- a file of questions is known
 abbrev IsToldTo : Command → Option (List ℕ) → Type 0
 IsToldTo asked questions = reads_questions (Some asked) ≡ true → IsSome questions
 
@@ -151,7 +151,8 @@ equal_counts shows n request x y counts are =
     let parts = are.alike in
     let manner = manner_of shows request in
     let items = chosen (classes_of n) are.span in
-    let equal = subst (λ (of : Task). AreAllAlike (λ (numbered : ℕ × DestClass). ArePartsAlike manner of numbered.0) items parts.firsts parts.seconds) counts parts.alike in
+    let equal = subst (λ (of : Task). AreAllAlike (λ (numbered : ℕ × DestClass). ArePartsAlike manner of numbered.0) items parts.firsts parts.seconds) counts
+    parts.alike in
     parts.first_is ∙ ap joined (equal_parts manner items parts.firsts parts.seconds equal) ∙ sym parts.second_is
 
 one_count : (request : Request) (file questions : Option (List ℕ)) (o p : Telling) → request.task ≡ task.Count

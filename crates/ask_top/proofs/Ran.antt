@@ -21,28 +21,34 @@ module _ (words : List (List ℕ)) (contents : List ℕ → Option (List ℕ)) w
   -- what is found for a command is an outcome of its words
   pub finds_words : (finding : Finding) (asked : Command) (first class second : List ℕ) (old new : List ℕ → ℕ) → command_of words ≡ Some asked →
       first ≡ file_of words → class ≡ class_word_of words → second ≡ second_of words →
-      Finds finding (IsOfFile (IsOfCommand asked class (contents second)) (contents first)) (Rose (old first) (new first)) (QuestionsFailed (Some asked) (contents first) (old second) (new second)) →
+      Finds finding (IsOfFile (IsOfCommand asked class (contents second)) (contents first)) (Rose (old first) (new first))
+      (QuestionsFailed (Some asked) (contents first) (old second) (new second)) →
       Finds finding (IsAskOutcome words contents) (NetworkRose (command_of words) (old (file_of words)) (new (file_of words)))
       (QuestionsFailed (command_of words) (contents (file_of words)) (old (second_of words)) (new (second_of words)))
   unfolding IsAskOutcome
   finds_words finding asked first class second old new is first_is class_is second_is finds =
-      let by_first = subst (λ (t : List ℕ). Finds finding (IsOfFile (IsOfCommand asked class (contents second)) (contents t)) (Rose (old t) (new t)) (QuestionsFailed (Some asked) (contents t) (old second) (new second)))
+      let by_first = subst (λ (t : List ℕ). Finds finding (IsOfFile (IsOfCommand asked class (contents second)) (contents t)) (Rose (old t) (new t))
+      (QuestionsFailed (Some asked) (contents t) (old second) (new second)))
       first_is finds in
-      let by_class = subst (λ (t : List ℕ). Finds finding (IsOfFile (IsOfCommand asked t (contents second)) (contents (file_of words))) (Rose (old (file_of words)) (new (file_of words)))
+      let by_class = subst (λ (t : List ℕ). Finds finding (IsOfFile (IsOfCommand asked t (contents second)) (contents (file_of words)))
+      (Rose (old (file_of words)) (new (file_of words)))
       (QuestionsFailed (Some asked) (contents (file_of words)) (old second) (new second))) class_is by_first in
       let by_second = subst (λ (t : List ℕ). Finds finding (IsOfFile (IsOfCommand asked (class_word_of words) (contents t)) (contents (file_of words)))
       (Rose (old (file_of words)) (new (file_of words))) (QuestionsFailed (Some asked) (contents (file_of words)) (old t) (new t))) second_is by_class in
       let A : Telling → Type 0 = IsOfFile (IsOfCommand asked (class_word_of words) (contents (second_of words))) (contents (file_of words)) in
       subst (λ (c : Option Command). Finds finding (IsOfWords c (class_word_of words) (contents (file_of words)) (contents (second_of words)))
-      (NetworkRose c (old (file_of words)) (new (file_of words))) (QuestionsFailed c (contents (file_of words)) (old (second_of words)) (new (second_of words)))) (sym is)
+      (NetworkRose c (old (file_of words)) (new (file_of words)))
+      (QuestionsFailed c (contents (file_of words)) (old (second_of words)) (new (second_of words)))) (sym is)
       (finds_as finding A A (Rose (old (file_of words)) (new (file_of words))) (NetworkRose (Some asked) (old (file_of words)) (new (file_of words)))
-      (QuestionsFailed (Some asked) (contents (file_of words)) (old (second_of words)) (new (second_of words))) (QuestionsFailed (Some asked) (contents (file_of words)) (old (second_of words)) (new (second_of words)))
+      (QuestionsFailed (Some asked) (contents (file_of words)) (old (second_of words)) (new (second_of words)))
+      (QuestionsFailed (Some asked) (contents (file_of words)) (old (second_of words)) (new (second_of words)))
       (λ o a. a) (λ r. (refl, r)) (λ s. s) by_second)
 
   -- words of no form
   pub misuse_is : command_of words ≡ None → IsAskOutcome words contents (misuse ask_usage)
   unfolding IsAskOutcome
-  misuse_is none = subst (λ (c : Option Command). IsOfWords c (class_word_of words) (contents (file_of words)) (contents (second_of words)) (misuse ask_usage)) (sym none) refl
+  misuse_is none = subst (λ (c : Option Command). IsOfWords c (class_word_of words) (contents (file_of words)) (contents (second_of words))
+      (misuse ask_usage)) (sym none) refl
 
 -- ---- the ending
 
@@ -51,7 +57,8 @@ done_is_not true e is = (λ same. (let no = is ∙ same in absurd (cc)), λ same
 done_is_not false e is = (λ same. (let no = is ∙ same in absurd (cc)), λ same. (let no = is ∙ same in absurd (cc)))
 
 -- what is found of words of a form is no misuse
-pub no_misuse : (finding : Finding) (A : Telling → Type 0) (f s : Type 0) (usage first second : List ℕ) → Finds finding A f s → (told_by finding usage first second).ending ≢ Usage
+pub no_misuse : (finding : Finding) (A : Telling → Type 0) (f s : Type 0) (usage first second : List ℕ) → Finds finding A f s →
+    (told_by finding usage first second).ending ≢ Usage
 no_misuse (Output bytes all) A f s usage first second finds = (done_is_not all (ending_of all) refl).0
 no_misuse (Refusal reason) A f s usage first second finds = λ same. absurd (cc)
 no_misuse Misuse A f s usage first second finds = absurd finds
@@ -69,7 +76,7 @@ read_fault_rose ReadFailed A f s usage first second finds is = inl finds
 read_fault_rose SecondFailed A f s usage first second finds is = inr finds
 read_fault_rose NoMemory A f s usage first second finds is = absurd (cc)
 
--- the ending that was to be told, or a fault of an output
+-- the ending that was to be reported, or a fault of an output
 pub ended : (o : Telling) (result e : Ending) → (result ≡ o.ending) ⊎ (result ≡ WriteFault) → result ≡ e → e ≢ WriteFault → o.ending ≡ e
 ended o result e (inl told) is other = sym told ∙ is
 ended o result e (inr fault) is other = absurd (other (sym is ∙ fault))
@@ -89,21 +96,24 @@ module _ (words : List (List ℕ)) (contents : List ℕ → Option (List ℕ)) (
   Second = QuestionsFailed (command_of words) (contents (file_of words)) (old (second_of words)) (new (second_of words))
 
   abbrev Runs : Type 0
-  Runs = RunMeets (IsAskOutcome words contents) (file_of words) (second_of words) First Second result out_old out_new out_before out_now err_old err_new err_before err_now
+  Runs = RunMeets (IsAskOutcome words contents) (file_of words)
+      (second_of words) First Second result out_old out_new out_before out_now err_old err_new err_before err_now
 
   abbrev Told : Telling → Type 0
   Told o = Tells o result out_old out_new out_before out_now err_old err_new err_before err_now
 
   module _ (finding : Finding) (asked : Command) (first class second : List ℕ) (is : command_of words ≡ Some asked)
       (first_is : first ≡ file_of words) (class_is : class ≡ class_word_of words) (second_is : second ≡ second_of words)
-      (finds : Finds finding (IsOfFile (IsOfCommand asked class (contents second)) (contents first)) (Rose (old first) (new first)) (QuestionsFailed (Some asked) (contents first) (old second) (new second)))
+      (finds : Finds finding (IsOfFile (IsOfCommand asked class (contents second)) (contents first)) (Rose (old first) (new first))
+      (QuestionsFailed (Some asked) (contents first) (old second) (new second)))
       (told : Told (told_by finding ask_usage first second)) where
     told_words : Told (told_by finding ask_usage (file_of words) (second_of words))
     told_words = subst (λ (t : List ℕ). Told (told_by finding ask_usage (file_of words) t)) second_is
         (subst (λ (t : List ℕ). Told (told_by finding ask_usage t second)) first_is told)
 
     pub told_runs : Runs
-    told_runs = run_meets (IsAskOutcome words contents) (file_of words) (second_of words) First Second result out_old out_new out_before out_now err_old err_new err_before err_now
+    told_runs = run_meets (IsAskOutcome words contents) (file_of words)
+        (second_of words) First Second result out_old out_new out_before out_now err_old err_new err_before err_now
         finding ask_usage (finds_words words contents finding asked first class second old new is first_is class_is second_is finds) told_words
 
     pub fault_rose : result ≡ ReadFault → IsSome (command_of words) × (First ⊎ Second)
@@ -115,5 +125,6 @@ module _ (words : List (List ℕ)) (contents : List ℕ → Option (List ℕ)) (
     )
 
   pub misuse_runs : command_of words ≡ None → Told (misuse ask_usage) → Runs
-  misuse_runs none told = meets (IsAskOutcome words contents) (file_of words) (second_of words) First Second result out_old out_new out_before out_now err_old err_new err_before err_now
+  misuse_runs none told = meets (IsAskOutcome words contents) (file_of words)
+      (second_of words) First Second result out_old out_new out_before out_now err_old err_new err_before err_now
       (misuse ask_usage) (inl (misuse_is words contents none)) told

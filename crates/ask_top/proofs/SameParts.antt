@@ -143,7 +143,8 @@ module _ (P Q : Problem) (same : ProblemsAlike P Q) (asks : AskedOf) where
   failings_alike number down losses A B x y left a b =
       let verdict = one_verdict down A B a.verdict b.verdict left a.answer.is b.answer.is in
       let yes = one_all losses a.trials b.trials a.tried b.tried in
-      let both : (is_yes a.verdict && list_all (λ (t : Trial). is_yes t.verdict) a.trials) ≡ (is_yes b.verdict && list_all (λ (t : Trial). is_yes t.verdict) b.trials) =
+      let both : (is_yes a.verdict && list_all (λ (t : Trial). is_yes t.verdict) a.trials) ≡
+      (is_yes b.verdict && list_all (λ (t : Trial). is_yes t.verdict) b.trials) =
       λ i. is_yes (verdict i) && yes i in
       let all = a.all ∙ both ∙ sym b.all in
       let names = sym same.names in

@@ -60,7 +60,8 @@ module _ {X : Type 0} (R : X → Part → Type 0) (S : X → Part → Part → T
       let tail = rest.1 in
       ((first.0, rest.0), λ i. head i && tail i)
 
-  pub joined_alike : (items : List X) (xs ys : List Part) (x y : Part) → ((item : X) → In items item → AreOfOne item) → Pairwise R items xs → Pairwise R items ys
+  pub joined_alike : (items : List X) (xs ys : List Part) (x y : Part) → ((item : X) → In items item → AreOfOne item) → Pairwise R items xs →
+      Pairwise R items ys
       → x ≡ joined xs → y ≡ joined ys → AreJoinedAlike S items x y × (x.all ≡ y.all)
   joined_alike items xs ys x y one a b x_is y_is =
       let same = all_alike items xs ys one a b in (

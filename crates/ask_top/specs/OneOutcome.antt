@@ -1,4 +1,4 @@
--- The words allow one outcome over files that are told, except for what is free: the tie that is told with an answer,
+-- The words allow one outcome over files that are known, except for what is free: the tie that is reported with an answer,
 -- the labels behind `no`, and in which order solutions stand and which labels stand for one.
 use Rattle.std.specs.Prelude.{◌≡◌, ◌⊎◌, ℕ, Bool, true, false, List, [], ◌∷◌, ◌++◌, length, map, Option, Some, None, IfSome, IsSome}
 use Rattle.cfg_ast.specs.declared.classes.DestClass.{DestClass}
@@ -43,7 +43,7 @@ shows_labels shows Yes = false
 shows_labels shows No = shows
 shows_labels shows NoSolution = false
 
--- One verdict. The tie that is told is free, and so are labels behind it, where any stand there.
+-- One verdict. The tie that is reported is free, and so are labels behind it, where any stand there.
 pub record AreAnswersAlike (shows : Bool) (number : ℕ) (first second : Part) : Type 0 where
   pub names : List (List ℕ)
   pub verdict : Verdict
@@ -66,7 +66,7 @@ pub record AreSolutionsAlike (one : Bool) (number : ℕ) (first second : Part) :
 abbrev pub verdicts_of : List Trial → List Verdict
 verdicts_of trials = map (λ (trial : Trial). trial.verdict) trials
 
--- One verdict, and one without each loss. The ties that are told are free.
+-- One verdict, and one without each loss. The ties that are reported are free.
 pub record AreFailingsAlike (number : ℕ) (first second : Part) : Type 0 where
   pub names : List (List ℕ)
   pub verdict : Verdict
@@ -126,7 +126,7 @@ pub record AreLinesAlike (network : Network) (line : TextLine) (first second : P
 
 -- ---- two outcomes
 
--- the questions of a file, where it is told
+-- the questions of a file, where it is known
 abbrev pub AreFilesAlike : Option (List ℕ) → Network → Part → Part → Type 0
 AreFilesAlike None network = λ first second. Unit {0}
 AreFilesAlike (Some text) network = AreJoinedAlike (AreLinesAlike network) (asking_lines text)
@@ -155,7 +155,7 @@ abbrev pub AreOutcomesAlike : Option Command → Option (List ℕ) → Option (L
 AreOutcomesAlike None file questions o p = o ≡ p
 AreOutcomesAlike (Some command) file questions o p = (o ≡ p) ⊎ AreDoneAlike command file questions o p
 
--- two outcomes that the words allow over files that are told are one, but for what is free
+-- two outcomes that the words allow over files that are known are one, except for what is free
 abbrev pub AskOutcomeIsOne : Type 0
 AskOutcomeIsOne = (words : List (List ℕ)) (contents : List ℕ → Option (List ℕ)) → AreContentsKnown words contents → (o p : Telling) → IsAskOutcome words contents o
     → IsAskOutcome words contents p → AreOutcomesAlike (command_of words) (contents (file_of words)) (contents (second_of words)) o p

@@ -25,7 +25,7 @@ abbrev pub IsOfQuestionText : Network → List ℕ → Telling → Type 0
 IsOfQuestionText network text o = ((questions_limit < length text) × (o ≡ refused long_questions))
     ⊎ ((length text ≤ questions_limit) × IsOfQuestions network text o)
 
--- The same of the file of questions. Where it is not told, anything is allowed.
+-- The same of the file of questions. Where it is not known, anything is allowed.
 abbrev pub IsOfQuestionFile : Option (List ℕ) → Network → Telling → Type 0
 IsOfQuestionFile second network o = IfSome second (λ text. IsOfQuestionText network text o)
 
@@ -38,6 +38,6 @@ abbrev pub IsOfWords : Option Command → List ℕ → Option (List ℕ) → Opt
 IsOfWords None word first second o = o ≡ misuse ask_usage
 IsOfWords (Some command) word first second o = IsOfFile (IsOfCommand command word second) first o
 
--- What the words allow over the contents of the files, as far as these are told.
+-- What the words allow over the contents of the files, as far as these are known.
 unfoldable pub IsAskOutcome : List (List ℕ) → (List ℕ → Option (List ℕ)) → Telling → Type 0
 IsAskOutcome words contents o = IsOfWords (command_of words) (class_word_of words) (contents (file_of words)) (contents (second_of words)) o

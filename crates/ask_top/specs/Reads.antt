@@ -29,6 +29,6 @@ QuestionsRose command before now = (reads_questions command ≡ true) × Rose be
 abbrev pub HoldsSome : List ℕ → Type 0
 HoldsSome text = (network : Network) × HoldsNetwork network text
 
--- The file of questions failed. It is read after the first file, so that holds a network where it is told.
+-- The file of questions failed. It is read after the first file, so that holds a network where it is known.
 abbrev pub QuestionsFailed : Option Command → Option (List ℕ) → ℕ → ℕ → Type 0
 QuestionsFailed command first before now = QuestionsRose command before now × IfSome first HoldsSome

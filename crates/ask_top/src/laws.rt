@@ -2,7 +2,7 @@
 
 ghost use Rattle.ask_top.specs.OneOutcome.{AskCountIsOne, AskEndingIsOne, AskOutcomeIsOne};
 
-/// The words allow only one outcome over files that are told, except for the tie that is told with an answer, the labels
+/// The words allow only one outcome over files that are known, except for the tie that is reported with an answer, the labels
 /// behind `no`, and the texts of solutions, of which the number is one.
 pub fn outcome_is_one()
     ensures { AskOutcomeIsOne }

@@ -26,7 +26,7 @@ pub fn run<S: Source, O: Sink, E: Sink>(
     out: &mut O,
     err: &mut E,
 ) -> Ending
-    // What is told is allowed by the words over the contents, as far as these are told, or a fault that has its cause, or
+    // What is reported is allowed by the words over the contents, as far as these are known, or a fault that has its cause, or
     // that memory ran out.
     ensures meets { RunMeets (IsAskOutcome (bytes_of_words words.now) (S.contents files.old)) (file_of (bytes_of_words words.now)) (second_of (bytes_of_words words.now))
         (NetworkRose (command_of (bytes_of_words words.now)) (S.faults files.old (file_of (bytes_of_words words.now))) (S.faults files.new (file_of (bytes_of_words words.now))))
@@ -45,7 +45,7 @@ pub fn run<S: Source, O: Sink, E: Sink>(
     ensures out_later { O.faults out.old ≤ O.faults out.new }
     ensures err_later { E.faults err.old ≤ E.faults err.new }
 
-    // A fault has its cause, whether the files are told or not.
+    // A fault has its cause, whether the files are known or not.
     ensures read_fault { result ≡ Ending.ReadFault → IsSome (command_of (bytes_of_words words.now))
         × (NetworkRose (command_of (bytes_of_words words.now)) (S.faults files.old (file_of (bytes_of_words words.now))) (S.faults files.new (file_of (bytes_of_words words.now)))
         ⊎ QuestionsFailed (command_of (bytes_of_words words.now)) (S.contents files.old (file_of (bytes_of_words words.now))) (S.faults files.old (second_of (bytes_of_words words.now))) (S.faults files.new (second_of (bytes_of_words words.now)))) }

@@ -41,21 +41,25 @@ no_names [] = refl
 no_names (part ∷ parts) = refl
 
 -- a part that is no new name ends the names
-pub names_end : (names : List (List ℕ)) (part : List ℕ) (parts : List (List ℕ)) → with_name names (name_of part) ≡ None → names_from (Some names) (part ∷ parts) ≡ None
+pub names_end : (names : List (List ℕ)) (part : List ℕ) (parts : List (List ℕ)) → with_name names (name_of part) ≡ None →
+    names_from (Some names) (part ∷ parts) ≡ None
 names_end names part parts none = ap (λ (so_far : Option (List (List ℕ))). names_from so_far parts) none ∙ no_names parts
 
 nothing_down : (parts : List (List ℕ)) → down_from None parts ≡ None
 nothing_down [] = refl
 nothing_down (part ∷ parts) = refl
 
-pub down_ends : (items : List Lost) (part : List ℕ) (parts : List (List ℕ)) → with_lost items (lost_of part) ≡ None → down_from (Some items) (part ∷ parts) ≡ None
+pub down_ends : (items : List Lost) (part : List ℕ) (parts : List (List ℕ)) → with_lost items (lost_of part) ≡ None →
+    down_from (Some items) (part ∷ parts) ≡ None
 down_ends items part parts none = ap (λ (so_far : Option (List Lost)). down_from so_far parts) none ∙ nothing_down parts
 
 module _ {X : Type 0} (f : X → List ℕ) (xs : List X) (i : ℕ) (d : X) where
-  pub names_end_at : (names : List (List ℕ)) → i < length xs → with_name names (name_of (f (get_or xs i d))) ≡ None → names_from (Some names) (map f (drop i xs)) ≡ None
+  pub names_end_at : (names : List (List ℕ)) → i < length xs → with_name names (name_of (f (get_or xs i d))) ≡ None →
+      names_from (Some names) (map f (drop i xs)) ≡ None
   names_end_at names less none = ap (λ (ys : List X). names_from (Some names) (map f ys)) (drop-cons xs i d less)
       ∙ names_end names (f (get_or xs i d)) (map f (drop (suc i) xs)) none
 
-  pub down_ends_at : (items : List Lost) → i < length xs → with_lost items (lost_of (f (get_or xs i d))) ≡ None → down_from (Some items) (map f (drop i xs)) ≡ None
+  pub down_ends_at : (items : List Lost) → i < length xs → with_lost items (lost_of (f (get_or xs i d))) ≡ None →
+      down_from (Some items) (map f (drop i xs)) ≡ None
   down_ends_at items less none = ap (λ (ys : List X). down_from (Some items) (map f ys)) (drop-cons xs i d less)
       ∙ down_ends items (f (get_or xs i d)) (map f (drop (suc i) xs)) none

@@ -7,7 +7,8 @@ use Rattle.srp_core.specs.Problem.{Problem}
 use Rattle.srp_core.specs.Solutions.{HaveEqualKeys, AreAllSolutions}
 use Rattle.srp_core.specs.Stability.{IsStable}
 
-pub all_of_one : (P : Problem) (L : List (Option Route)) → IsStable P L → ((M : List (Option Route)) → IsStable P M → HaveEqualKeys P M L) → AreAllSolutions P (L ∷ [])
+pub all_of_one : (P : Problem) (L : List (Option Route)) → IsStable P L → ((M : List (Option Route)) → IsStable P M → HaveEqualKeys P M L) →
+    AreAllSolutions P (L ∷ [])
 all_of_one P L st one = record {
   stable = λ M inside. elim (in_contains (L ∷ []) M inside) [ inl same ↦ subst (IsStable P) same st | inr none ↦ absurd none ];
   apart = λ i j first second less at at' keys.

@@ -36,7 +36,8 @@ pub record IsNotWorse (L : List (Option Route)) (u : ℕ) (c : Route) : Type 0 w
 -- routes of one key give routes of one key over an edge
 pub steps_alike : (P : Problem) (e : Edge) (r s c : Route) → IsRouteOf P.protocol r → IsRouteOf P.protocol s → plain r ≡ plain s → step_over P e r ≡ Some c →
     (d : Route) × (step_over P e s ≡ Some d) × (plain c ≡ plain d)
-steps_alike P e r s c fit fit' same stepped = step_same P.protocol (λ n. false) (act_of P e) (act_of P e) (number P e.exporter) (number P e.exporter) r s c fit fit'
+steps_alike P e r s c fit fit' same stepped = step_same P.protocol (λ n. false) (act_of P e) (act_of P e) (number P e.exporter)
+    (number P e.exporter) r s c fit fit'
     (alike_self (act_of P e)) (inr refl) same stepped
 
 module _ (P : Problem) (good : IsProblem P) (none : HasNoLone P) where
@@ -67,7 +68,8 @@ module _ (P : Problem) (good : IsProblem P) (none : HasNoLone P) where
     pub stable_from_edge : (e : Edge) (r c : Route) → Contains P.edges e → label L e.exporter ≡ Some r → step_over P e r ≡ Some c → IsNotWorse L e.importer c
     stable_from_edge e r c i lab s =
         let inside = (good.edges.inside e i).importer_in in
-        not_worse e.importer c inside (offer_edge e i refl r (st.fitting.routes e.exporter r lab) s) (raw_optimal P good L st e r c i (none e.importer inside) lab s)
+        not_worse e.importer c inside (offer_edge e i refl r (st.fitting.routes e.exporter r lab) s)
+        (raw_optimal P good L st e r c i (none e.importer inside) lab s)
 
   -- ---- weakly stable labels
 

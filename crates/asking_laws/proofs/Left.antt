@@ -34,7 +34,8 @@ ospf_none_lone P good ospf u inside = elim (cases_Bool (is_lone P u)) [
 module _ (P Q : Problem) (down : Down) (good : IsProblem P) (without : IsWithout P down Q) where
   edge_was : (e : Edge) → Contains Q.edges e → Contains P.edges e × (is_left down e ≡ true)
   edge_was e h =
-      let there = filter_in (is_left down) P.edges e (let Has : List Edge → Type 0 = λ l. Contains l e in in_contains (filter (is_left down) P.edges) e (subst Has without.edges h)) in
+      let there = filter_in (is_left down) P.edges e (let Has : List Edge →
+      Type 0 = λ l. Contains l e in in_contains (filter (is_left down) P.edges) e (subst Has without.edges h)) in
       (contains_in P.edges e there.0, there.1)
 
   pub edge_stays : (e : Edge) → Contains P.edges e → is_left down e ≡ true → Contains Q.edges e
@@ -61,7 +62,8 @@ module _ (P Q : Problem) (down : Down) (good : IsProblem P) (without : IsWithout
   silent : (u p : ℕ) → Accepts P u p → initial P u ≡ None
   silent u p a = elim (cases_protocol P.protocol) [
     | inl bgp ↦ subst (λ (v : ℕ). initial P v ≡ None) a.importer (good.starts.unoriginated bgp a.edge a.edge_in)
-    | inr ospf ↦ absurd (no_import_cost (act_of P a.edge) a.comms a.imported (subst (λ q. IsActOf q (act_of P a.edge)) ospf (edge_act P good a.edge a.edge_in)) a.accepted)
+    | inr ospf ↦ absurd (no_import_cost (act_of P a.edge) a.comms a.imported
+        (subst (λ q. IsActOf q (act_of P a.edge)) ospf (edge_act P good a.edge a.edge_in)) a.accepted)
   ]
 
   lone_before : (u : ℕ) → IsLone Q u → IsLone P u
@@ -112,6 +114,13 @@ spare_left P Q down L loses without u r lab = by (loses.stable.held u r (label_i
     by (of_edge e i imp over) = elim (cases_Bool (is_left down e)) [
       | inl left ↦ left_edge e r (edge_stays P Q down loses.rules without e i left) imp over refl
       | inr lost ↦ (
-          let forwards : ForwardsOver P L e = record { route = r; labelled = subst (λ v. label L v ≡ Some r) (sym imp) lab; candidate = r; over = over; same = refl } in
+          let forwards : ForwardsOver P L e = record {
+            route = r;
+            labelled = subst (λ v. label L v ≡ Some r) (sym imp) lab;
+            candidate = r;
+            over = over;
+            same =
+                refl;
+          } in
           other r refl (subst (λ v. HasElsewhere P down L v r) imp (loses.spare e forwards i lost)))
     ]

@@ -157,7 +157,8 @@ module _ (P : Problem) (good : IsProblem P) (none : HasNoLone P) (L : List (Opti
             from = t.from;
             labelled = t.labelled;
             stepped = t.stepped;
-            passes = passes_check P good none M (weak_supported P good none M weak) f.edge t.from t.route own.route f.edge_in t.labelled t.stepped held (omega arith);
+            passes = passes_check P good none M (weak_supported P good none M weak) f.edge t.from t.route own.route f.edge_in t.labelled t.stepped held
+                (omega arith);
           };
           same = weakly_equal (key_of P t.route) (key_of P own.route) (preferences t.route own.route equal) size;
         }

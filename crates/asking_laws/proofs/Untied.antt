@@ -22,7 +22,8 @@ module _ (P Q : Problem) (gp : IsProblem P) (gq : IsProblem Q) (np : HasNoLone P
   plain_same u r c lab (of_edge e i imp over) preference size =
       let own = come.there u r lab in
       let before = part.edges e i in
-      let t = carried Q P (sym part.protocol) e (λ s. sym (same_step P Q gp gq np nq part e s)) M L sq.fitting sp.fitting come over.from c over.labelled over.stepped in
+      let t = carried Q P (sym part.protocol) e (λ s. sym (same_step P Q gp gq np nq part e s)) M L sq.fitting sp.fitting come over.from c over.labelled
+      over.stepped in
       let held : label L e.importer ≡ Some own.route = subst (λ v. label L v ≡ Some own.route) (sym imp) own.labelled in
       let long : size_of t.route ≡ size_of own.route = sizes t.route c t.keyed ∙ size ∙ sym (sizes own.route r own.keyed) in
       let there : IsCandidateOver P L e t.route = record {

@@ -36,7 +36,8 @@ length_groups : (g : ℕ → ℕ) (xs : List ℕ) → length (map g xs) ≡ leng
 length_groups g [] = refl
 length_groups g (x ∷ xs) = ap suc (length_groups g xs)
 
-module _ (P S : Problem) (groups : List ℕ) (gp : IsProblem P) (quotient : IsQuotient P groups S) (L M : List (Option Route)) (co : Corresponds P S groups L M) where
+module _ (P S : Problem) (groups : List ℕ) (gp : IsProblem P) (quotient : IsQuotient P groups S) (L M : List (Option Route))
+    (co : Corresponds P S groups L M) where
   chain_down : (u : ℕ) (behind : List ℕ) → IsChain P L u behind → IsChain S M (group_of groups u) (map (group_of groups) behind)
   chain_down u [] chain = tt
   chain_down u (v ∷ behind) chain = (co.down u v (own_inside P gp L u v chain.0) chain.0, chain_down v behind chain.1)
@@ -91,7 +92,8 @@ module _ (P S : Problem) (groups : List ℕ) (gp : IsProblem P) (quotient : IsQu
     passes_down : (u : ℕ) → u < count P → PassesThrough P L way u → PassesThrough S M (map (group_of groups) way) (group_of groups u)
     passes_down u lt passes = λ below chain ends.
         let up = chain_up u below lt chain in
-        let ends' : EndsAtOrigin S (group_of groups u) (map (group_of groups) up.behind) = subst (λ l. EndsAtOrigin S (group_of groups u) l) (sym up.same) ends in
+        let ends' : EndsAtOrigin S (group_of groups u) (map (group_of groups) up.behind) =
+        subst (λ l. EndsAtOrigin S (group_of groups u) l) (sym up.same) ends in
         subst (λ l. Meets (map (group_of groups) way) (group_of groups u) l) up.same
         (meets_down u up.behind (passes up.behind up.chain (λ none. ends' (start_same u up.behind lt up.chain ∙ none))))
 

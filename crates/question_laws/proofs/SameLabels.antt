@@ -29,7 +29,8 @@ still_none A B a b (both_none e f) none = f
 still_none A B a b (both_some r s e f k) none = absurd cc
 
 -- a route of the one has the communities of a route of the other
-pub comms_there : (A B : Problem) (a b : Option Route) → HaveSameKeys A B a b → (s : Route) → b ≡ Some s → (r : Route) × (a ≡ Some r) × (comms_of r ≡ comms_of s)
+pub comms_there : (A B : Problem) (a b : Option Route) → HaveSameKeys A B a b → (s : Route) → b ≡ Some s →
+    (r : Route) × (a ≡ Some r) × (comms_of r ≡ comms_of s)
 comms_there A B a b (both_none e f) s at = absurd cc
 comms_there A B a b (both_some r t e f k) s at = (r, e, ap (λ (key : Key). key.comms) k ∙ ap comms_of (one_some b t s f at))
 

@@ -30,7 +30,8 @@ at_other f (suc k) (x ∷ xs) zero other = refl
 at_other f (suc k) (x ∷ xs) (suc j) other = at_other f k xs j (λ e. other (ap suc e))
 
 -- what the place held before
-pub was_there : {X : Type 0} (f : X → X) (k : ℕ) (xs : List X) (y : X) → slice_get (changed_at f k xs) k ≡ Some y → (x : X) × (slice_get xs k ≡ Some x) × (y ≡ f x)
+pub was_there : {X : Type 0} (f : X → X) (k : ℕ) (xs : List X) (y : X) → slice_get (changed_at f k xs) k ≡ Some y →
+    (x : X) × (slice_get xs k ≡ Some x) × (y ≡ f x)
 was_there f k [] y e = absurd cc
 was_there {X} f zero (x ∷ xs) y e = (x, refl, (let same : f x ≡ y = cc in sym same))
 was_there f (suc k) (x ∷ xs) y e = was_there f k xs y e
@@ -166,7 +167,8 @@ left_ascends {X} p (y ∷ ys) (suc k) (suc l) x e passes less = by (p y) (left_a
 
 -- ---- lists that are equal at each place
 
-pub same_lists : {X : Type 0} (d : Option X) (xs ys : List (Option X)) → length xs ≡ length ys → ((u : ℕ) → slice_index_or xs u d ≡ slice_index_or ys u d) → xs ≡ ys
+pub same_lists : {X : Type 0} (d : Option X) (xs ys : List (Option X)) → length xs ≡ length ys → ((u : ℕ) → slice_index_or xs u d ≡ slice_index_or ys u d) →
+    xs ≡ ys
 same_lists d [] [] total each = refl
 same_lists d [] (y ∷ ys) total each = absurd (omega arith)
 same_lists d (x ∷ xs) [] total each = absurd (omega arith)

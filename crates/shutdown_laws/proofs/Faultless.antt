@@ -165,7 +165,8 @@ module _ (n : Network) (r i : ℕ) where
       ∙ filter_map_changed (λ (router : Router). option_map numbered router.bgp) (shut_on i) (λ router. numbered_shut i router.bgp) r n.routers
       ∙ sym (map_of_filter_map numbered (λ (router : Router). router.bgp) n.routers) in
       sym (map_of_map (λ (x : Numbered). x.line) numbered (repeats (λ (x y : BgpProcess). nat_eq x.number y.number) after))
-      ∙ ap (map (λ (x : Numbered). x.line)) (map_repeats numbered alike [] after ∙ ap (repeats_after alike []) same ∙ sym (map_repeats numbered alike [] before))
+      ∙ ap (map (λ (x : Numbered). x.line)) (map_repeats numbered alike [] after ∙ ap (repeats_after alike []) same
+      ∙ sym (map_repeats numbered alike [] before))
       ∙ map_of_map (λ (x : Numbered). x.line) numbered (repeats (λ (x y : BgpProcess). nat_eq x.number y.number) before)
 
   peers_same : internal_peer_lines m ≡ internal_peer_lines n
@@ -228,7 +229,8 @@ module _ (n : Network) (r i : ℕ) where
       let one = λ (router : Router). map neighbor_line (neighbors_of router) in
       let same : map neighbor_line (flat_map neighbors_of m.routers) ≡ map neighbor_line (flat_map neighbors_of n.routers) =
       map_of_flat_map neighbor_line neighbors_of m.routers
-      ∙ of_each one (λ router. ap (map neighbor_line) (neighbors_shut i router) ∙ map_changed neighbor_line shut_line (λ neighbor. refl) i (neighbors_of router))
+      ∙ of_each one (λ router. ap (map neighbor_line) (neighbors_shut i router)
+      ∙ map_changed neighbor_line shut_line (λ neighbor. refl) i (neighbors_of router))
       ∙ sym (map_of_flat_map neighbor_line neighbors_of n.routers) in
       map_beyond neighbor_line 131072 (flat_map neighbors_of m.routers) ∙ ap (first_beyond 131072) same
       ∙ sym (map_beyond neighbor_line 131072 (flat_map neighbors_of n.routers))

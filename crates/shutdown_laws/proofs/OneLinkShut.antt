@@ -24,7 +24,8 @@ bool_is : (b : Bool) → (b ≡ true → ⊥) → b ≡ false
 bool_is true never = absurd (never refl)
 bool_is false never = refl
 
-module _ (one : NeighborEndsOneLink) (n : Network) (prefix : Prefix) (P O : Problem) (r i l : ℕ) (link : Link) (given : ∥ IsGiven n ∥₁) (faultless : IsFaultless n)
+module _ (one : NeighborEndsOneLink) (n : Network) (prefix : Prefix) (P O : Problem) (r i l : ℕ) (link : Link) (given : ∥ IsGiven n ∥₁)
+    (faultless : IsFaultless n)
     (bgp : P.protocol ≡ OverBgp) (of : IsProblemOf n prefix P) (at : slice_get (links_of n) l ≡ Some link) (ends : is_end r i link ≡ true) where
   abbrev alone : Down
   alone = with_link_down l nothing_down

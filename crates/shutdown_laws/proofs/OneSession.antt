@@ -162,7 +162,8 @@ module _ (n : Network) (faultless : IsFaultless n) (formed : (router : Router) �
       let owner_there = subst (λ (k : ℕ). slice_get n.routers k ≡ Some r.owner) (sym routers) at_r.owner_at in
       let owner_too = at_q.owner_at in
       let owners : r.owner ≡ q.owner = cc (owner_there, owner_too) in
-      let other : slice_get (neighbors_of q.owner) r.item ≡ Some r.value = subst (λ (o : Router). slice_get (neighbors_of o) r.item ≡ Some r.value) owners at_r.value_at in
+      let other : slice_get (neighbors_of q.owner) r.item ≡ Some r.value =
+      subst (λ (o : Router). slice_get (neighbors_of o) r.item ≡ Some r.value) owners at_r.value_at in
       one_place n q r at_q at_r routers (one_item (neighbors_of q.owner) q.item r.item q.value r.value (once q at_q) at_q.value_at other addrs)
 
   -- both ends of a session

@@ -11,7 +11,8 @@ use Rattle.srp_core.specs.Acts.{import_by}
 use Rattle.srp_core.specs.Problem.{Problem, count, number, initial, Accepts, IsLone, Precedes, AreOrdered, IsProblem}
 use Rattle.shutdown_laws.specs.Shutdown.{with_link, renumbered}
 
-module _ (num : ℕ → ℕ) (O : Problem) (rules : IsProblem O) (ascends : (e f : Edge) → Contains O.edges e → Contains O.edges f → e.link < f.link → num e.link < num f.link) where
+module _ (num : ℕ → ℕ) (O : Problem) (rules : IsProblem O) (ascends : (e f : Edge) → Contains O.edges e → Contains O.edges f → e.link < f.link →
+    num e.link < num f.link) where
   record Was (e' : Edge) : Type 0 where
     edge : Edge
     inside : Contains O.edges edge

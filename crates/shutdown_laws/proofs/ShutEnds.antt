@@ -72,7 +72,8 @@ module _ (n : Network) (r i : ℕ) where
   ]
 
   -- lines that are not shut are where they were
-  line_at : (x item : ℕ) (u : Router) → (x ≡ r) ⊎ (shut_on i u ≡ u) → IsOff x item → slice_get (neighbors_of (shut_on i u)) item ≡ slice_get (neighbors_of u) item
+  line_at : (x item : ℕ) (u : Router) → (x ≡ r) ⊎ (shut_on i u ≡ u) → IsOff x item →
+      slice_get (neighbors_of (shut_on i u)) item ≡ slice_get (neighbors_of u) item
   line_at x item u (inr same) off = ap (λ (w : Router). slice_get (neighbors_of w) item) same
   line_at x item u (inl here) off =
       ap (λ (xs : List Neighbor). slice_get xs item) (neighbors_shut i u)
@@ -110,7 +111,8 @@ module _ (n : Network) (r i : ℕ) where
   abbrev pub numbered : ℕ → Direction → Direction
   numbered link d = record d { link = link }
 
-  module _ (prefix : Prefix) (d : Direction) (link : ℕ) (exporter_off : IsOff d.exporter d.exporter_item) (importer_off : IsOff d.importer d.importer_item) where
+  module _ (prefix : Prefix) (d : Direction) (link : ℕ) (exporter_off : IsOff d.exporter d.exporter_item)
+      (importer_off : IsOff d.importer d.importer_item) where
     ends_after : SessionEnds n d → SessionEnds (with_shutdown n r i) (numbered link d)
     ends_after e =
         let u = after d.exporter e.exporter e.exporter_at in

@@ -174,7 +174,8 @@ module _ (r i : ℕ) where
   from_place ps p =
       ap (map (link_between (shut_place p))) (filter_map_of (is_session (shut_place p)) shut_place ps)
       ∙ map_of_map (link_between (shut_place p)) shut_place (filter (λ q. is_session (shut_place p) (shut_place q)) ps)
-      ∙ ap (map (link_between p)) (filter_same (λ q. is_session (shut_place p) (shut_place q)) (λ q. is_session p q && stays (link_between p q)) ps (shut_session p)
+      ∙ ap (map (link_between p)) (filter_same (λ q. is_session (shut_place p) (shut_place q)) (λ q. is_session p q && stays (link_between p q)) ps
+      (shut_session p)
       ∙ filter_twice (is_session p) (λ q. stays (link_between p q)) ps)
       ∙ sym (filter_map_of stays (link_between p) (filter (is_session p) ps))
 

@@ -144,7 +144,8 @@ module _ (n : Network) (prefix : Prefix) (P O : Problem) (r i : ℕ) (faultless 
       ∙ ap (λ (o : Option Link). not (option_map_or (is_end r i) o false)) w.at ∙ w.passes in
       let left : is_left (down_at n r i) old.0 ≡ true = ap (λ b. b && (not false && not false)) closed in
       let inside : Contains O.edges old.0 = subst (λ (l : List Edge). Contains l old.0) (sym without.edges)
-      (contains_in (filter (is_left (down_at n r i)) P.edges) old.0 (in_filter (is_left (down_at n r i)) P.edges old.0 (in_contains P.edges old.0 old.1) left)) in
+      (contains_in (filter (is_left (down_at n r i)) P.edges) old.0
+      (in_filter (is_left (down_at n r i)) P.edges old.0 (in_contains P.edges old.0 old.1) left)) in
       record {
         edge = with_link num old.0;
         inside = stays num O without.rules ascends old.0 inside;

@@ -58,7 +58,8 @@ shut_lines item router (Some process) (Some other) = refl
 pub same_lines : (item : ℕ) (router : Router) → protocol_lines_of (shut_on item router) ≡ protocol_lines_of router
 same_lines item router = shut_lines item router router.bgp router.ospf
 
-shut_importer : (item : ℕ) (prefix : Prefix) (exporter : Router) (out : Neighbor) (importer : Router) (o : Option BgpProcess) (into : Neighbor) (comms : List ℕ) →
+shut_importer : (item : ℕ) (prefix : Prefix) (exporter : Router) (out : Neighbor) (importer : Router) (o : Option BgpProcess) (into : Neighbor)
+    (comms : List ℕ) →
     session_import prefix exporter out (with_process importer (option_map (shut_in item) o)) into comms
     ≡ session_import prefix exporter out (with_process importer o) into comms
 shut_importer item prefix exporter out importer None into comms = refl

@@ -56,7 +56,7 @@ with_link number edge = record edge { link = number edge.link }
 abbrev pub renumbered : (ℕ → ℕ) → Problem → Problem
 renumbered number problem = record problem { edges = map (with_link number) problem.edges }
 
--- A BGP problem without the links of one neighbour is, but for the numbers of links, the problem of the
+-- A BGP problem without the links of one neighbour is, except for the numbers of links, the problem of the
 -- network in which that neighbour has `shutdown`.
 abbrev pub ShutdownIsWithout : Type 0
 ShutdownIsWithout = (n : Network) (prefix : Prefix) (problem other : Problem) (router item : ℕ) → IsFaultless n → problem.protocol ≡ OverBgp
@@ -69,7 +69,7 @@ NeighborEndsOneLink = (n : Network) (router item number other_number : ℕ) (lin
     → slice_get (links_of n) number ≡ Some link → slice_get (links_of n) other_number ≡ Some other → is_end router item link ≡ true
     → is_end router item other ≡ true → number ≡ other_number
 
--- A BGP problem without one link is, but for the numbers of links, the problem of the network in which the neighbour at
+-- A BGP problem without one link is, except for the numbers of links, the problem of the network in which the neighbour at
 -- an end of the link has `shutdown`.
 abbrev pub ShutdownIsWithoutLink : Type 0
 ShutdownIsWithoutLink = (n : Network) (prefix : Prefix) (problem other : Problem) (router item number : ℕ) (link : Link) → ∥ IsGiven n ∥₁ → IsFaultless n

@@ -23,7 +23,8 @@ all_seen problem found (AllSeen None) ends = ends.0
 all_seen problem found (AllSeen (Some tie)) ends = ends.0
 all_seen problem found Stopped ends = (let no : true ≡ false = ends.1 in absurd (cc))
 
-pub count_written : (problem : Problem) (number count : ℕ) (found : List (List (Option Route))) (old new line : List ℕ) → AreAllSolutions problem found → count ≡ length found →
+pub count_written : (problem : Problem) (number count : ℕ) (found : List (List (Option Route))) (old new line : List ℕ) → AreAllSolutions problem found →
+    count ≡ length found →
     line ≡ count_line number count → new ≡ old ++ line → Writes (IsCountPart number problem) old new true
 count_written problem number count found old new line are counted told written = record {
   part = record { bytes = line; all = true };
@@ -42,7 +43,7 @@ texts_written problem what one number count found old new bytes are told written
   all_is = refl;
 }
 
--- nothing has been told yet
+-- nothing has been reported yet
 pub none_told : (problem : Problem) (what : Told) (one : Bool) (number : ℕ) → HasTold problem what one number 0 [] []
 none_told problem what one number = record { texts = []; told = tt; count_is = refl; bytes_are = refl }
 

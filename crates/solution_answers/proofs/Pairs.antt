@@ -6,7 +6,8 @@ use Rattle.solution_answers.specs.Pairwise.{Pairwise}
 use Rattle.solution_answers.specs.Parts.{Part, bytes_of, are_all}
 use Rattle.solution_answers.specs.Writing.{Writes, WritesEach}
 
-pub pair_more : {X Y : Type 0} (R : X → Y → Type 0) (xs : List X) (ys : List Y) (x : X) (y : Y) → Pairwise R xs ys → R x y → Pairwise R (xs ++ x ∷ []) (ys ++ y ∷ [])
+pub pair_more : {X Y : Type 0} (R : X → Y → Type 0) (xs : List X) (ys : List Y) (x : X) (y : Y) → Pairwise R xs ys → R x y →
+    Pairwise R (xs ++ x ∷ []) (ys ++ y ∷ [])
 pair_more R [] [] x y are is = (is, tt)
 pair_more R [] (z ∷ ys) x y are is = absurd are
 pair_more R (w ∷ xs) [] x y are is = absurd are
@@ -42,7 +43,8 @@ pub none_written : {X : Type 0} (R : X → Part → Type 0) (bytes : List ℕ) �
 none_written R bytes = record { parts = []; are = tt; bytes = sym (append-nil bytes); all_is = refl }
 
 -- a part behind those of the items before
-pub one_written : {X : Type 0} (R : X → Part → Type 0) (xs : List X) (x : X) (old mid new : List ℕ) (all good : Bool) → WritesEach R xs old mid all → Writes (R x) mid new good
+pub one_written : {X : Type 0} (R : X → Part → Type 0) (xs : List X) (x : X) (old mid new : List ℕ) (all good : Bool) → WritesEach R xs old mid all →
+    Writes (R x) mid new good
     → WritesEach R (xs ++ x ∷ []) old new (all && good)
 one_written R xs x old mid new all good before one = record {
   parts = before.parts ++ one.part ∷ [];

@@ -76,11 +76,13 @@ module _ (problem : Problem) (asked : Question) where
   shown_by false true text e = e
   shown_by false false text e = e
 
-  pub shown_all : (shows some : Bool) (text : List ℕ) → text ≡ [] → (verdict : Verdict) → verdict ≡ (if some then Yes else NoSolution) → IsShown shows verdict problem asked text
+  pub shown_all : (shows some : Bool) (text : List ℕ) → text ≡ [] → (verdict : Verdict) → verdict ≡ (if some then Yes else NoSolution) →
+      IsShown shows verdict problem asked text
   shown_all shows some text e verdict is = subst (λ (v : Verdict). IsShown shows v problem asked text) (sym is) (shown_by shows some text e)
 
 -- What was seen by a visitor that is as it was before.
-pub seen_as : (problem problem' : Problem) (asked asked' : Question) (shows shows' some : Bool) (failed : Option (Vec ℕ Global)) (found : List (List (Option Route)))
+pub seen_as : (problem problem' : Problem) (asked asked' : Question) (shows shows' some : Bool) (failed : Option (Vec ℕ Global))
+    (found : List (List (Option Route)))
     → problem' ≡ problem → asked' ≡ asked → shows' ≡ shows → HasAsked problem' asked' shows' some failed found → HasAsked problem asked shows some failed found
 seen_as problem problem' asked asked' shows shows' some failed found e f g seen =
     subst (λ (p : Problem). HasAsked p asked shows some failed found) e

@@ -1,4 +1,4 @@
--- One more solution that is told.
+-- One more solution that is reported.
 use Rattle.std.proofs.Common.{◌≡◌, ℕ, ◌+◌, Bool, List, [], ◌∷◌, ◌++◌, length, flat_map, sym, ap, ◌∙◌, arith, append_assoc, length-append, Option}
 use Rattle.std.specs.List.{enumerate_from}
 use Rattle.srp_core.specs.declared.route.Route.{Route}
@@ -18,7 +18,8 @@ told_more problem what one number count next old mid new head text found labels 
       texts = texts;
       told = pair_more (IsToldAs what problem) found before.texts labels text before.told is;
       count_is = omega (arith, before.count_is, counted, length-append before.texts (text ∷ []));
-      bytes_are = ended ∙ ap (λ (t : List ℕ). t ++ text) (middle ∙ ap (λ (t : List ℕ). t ++ head) before.bytes_are ∙ ap (λ (t : List ℕ). solution_texts one number before.texts ++ t) headed)
+      bytes_are = ended ∙ ap (λ (t : List ℕ). t ++ text) (middle ∙ ap (λ (t : List ℕ). t ++ head) before.bytes_are
+          ∙ ap (λ (t : List ℕ). solution_texts one number before.texts ++ t) headed)
           ∙ append_assoc (solution_texts one number before.texts) (solution_head one number next) text
           ∙ ap (λ (k : ℕ). solution_texts one number before.texts ++ (solution_head one number k ++ text)) (sym place)
           ∙ sym (flat_more (solution_text one number) (enumerate_from 1 before.texts) (1 + length before.texts, text))

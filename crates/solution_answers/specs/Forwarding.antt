@@ -11,7 +11,7 @@ abbrev pub next_words : List (List ℕ) → List ℕ → List ℕ
 next_words names [] = codes " here"
 next_words names (next ∷ more) = codes " to" ++ spaced_words (map (name_at names) (next ∷ more))
 
--- what is told of a router
+-- what is reported of a router
 abbrev pub hops_words : List (List ℕ) → Option Route → List ℕ → List ℕ
 hops_words names None hops = codes " none"
 hops_words names (Some route) hops = next_words names hops

@@ -43,7 +43,7 @@ pub record IsHopsText (problem : Problem) (labels : List (Option Route)) (text :
   pub are : AreNextHops problem labels hops
   pub text_is : text ≡ hops_text problem.names labels hops
 
--- each solution of a problem, told so
+-- each solution of a problem, reported as such
 pub record IsSolutionsPart (IsText : Problem → List (Option Route) → List ℕ → Type 0) (one : Bool) (number : ℕ) (problem : Problem) (part : Part) : Type 0 where
   pub found : List (List (Option Route))
   pub are : AreAllSolutions problem found

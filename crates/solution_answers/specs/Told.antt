@@ -1,4 +1,4 @@
--- What has been told of the solutions that were seen.
+-- What has been reported of the solutions that were seen.
 use Rattle.std.specs.Prelude.{◌≡◌, ℕ, Bool, List, length, Option}
 use Rattle.srp_core.specs.declared.route.Route.{Route}
 use Rattle.srp_core.specs.Problem.{Problem}
@@ -7,7 +7,7 @@ use Rattle.solution_answers.specs.Solutions.{IsLabelsText, IsHopsText, solution_
 use Rattle.solution_answers.specs.declared.told.Told.{Told}
 use Rattle.solution_answers.specs.declared.told.Told.TheVariants as told
 
--- what is told of labels
+-- what is reported of labels
 abbrev pub IsToldAs : Told → Problem → List (Option Route) → List ℕ → Type 0
 IsToldAs told.Labels problem labels text = IsLabelsText problem labels text
 IsToldAs told.Hops problem labels text = IsHopsText problem labels text

@@ -35,7 +35,7 @@ abbrev pub tied_words : List (List ℕ) → Option Tie → List ℕ
 tied_words names None = []
 tied_words names (Some tie) = tie_words names tie
 
--- `class N VERDICT`, and behind it the tie that is told
+-- `class N VERDICT`, and behind it the tie that is reported
 unfoldable pub answer_line : List (List ℕ) → ℕ → Verdict → Option Tie → List ℕ
 answer_line names number verdict tied = codes "class " ++ decimal number ++ codes " " ++ verdict_word verdict ++ tied_words names tied ++ 10 ∷ []
 
@@ -45,13 +45,13 @@ pub record IsTieless (problem : Problem) : Type 0 where
   pub are : AreAllSolutions problem found
   pub holds : HoldsHoweverTiesBreak problem found
 
--- A tie is told behind no `no`; and where none is told behind `yes` or `none`, ties do not matter.
+-- A tie is reported behind no `no`; and where none is reported behind `yes` or `none`, ties do not matter.
 pub record IsTold (problem : Problem) (verdict : Verdict) (tied : Option Tie) : Type 0 where
   pub unasked : verdict ≡ No → tied ≡ None
   pub tieless : verdict ≢ No → tied ≡ None → IsTieless problem
   pub router : IfSome tied (λ t. t.router < count problem)
 
--- the answer to a question, and the tie that is told with it
+-- the answer to a question, and the tie that is reported with it
 pub record IsAnswer (problem : Problem) (asked : Question) (verdict : Verdict) (tied : Option Tie) : Type 0 where
   pub is : IsVerdict problem (IsTrueIn asked problem) verdict
   pub told : IsTold problem verdict tied

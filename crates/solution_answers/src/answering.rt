@@ -114,7 +114,7 @@ fn tie_words(alloc: Global, srp: &Srp, tie: Tie) -> Result<String, AllocError>
     Ok(words)
 }
 
-// The words that tell a tie, if one is told.
+// The words that tell a tie, if one is reported.
 fn tied_words(alloc: Global, srp: &Srp, tie: Option<Tie>) -> Result<String, AllocError>
     ensures { IfOk result (λ words. string_bytes words ≡ tied_words srp.now.names tie) }
 {

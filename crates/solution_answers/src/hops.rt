@@ -38,7 +38,7 @@ fn put_next(text: &mut String, srp: &Srp, hops: &[u32]) -> Result<(), AllocError
     }
 }
 
-// Appends what is told of a router: that it has no label, or to whom it forwards.
+// Appends what is reported of a router: that it has no label, or to whom it forwards.
 fn put_hops(
     text: &mut String,
     srp: &Srp,

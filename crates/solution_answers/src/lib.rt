@@ -1,6 +1,6 @@
-//! What is told of the solutions of a routing problem.
+//! What is reported of the solutions of a routing problem.
 //!
-//! `put_count` tells how many solutions a problem has, and `put_solutions` each of them: its labels, or
+//! `put_count` writes how many solutions a problem has, and `put_solutions` each of them: its labels, or
 //! whom each router forwards to. `solved` answers a question: `yes` if it is true in all stable labels,
 //! `none` if there are none, else `no` with labels in which it is false. With `yes` and `none` it may name
 //! a router whose offers tie; if it names none, the answer holds however ties are broken. `answer_line` is

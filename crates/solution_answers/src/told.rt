@@ -1,6 +1,6 @@
-//! What is told of a solution.
+//! What is reported of a solution.
 
-/// What is told of a solution.
+/// What is reported of a solution.
 #[derive(Clone, Copy, Debug, PartialEq, Eq)]
 pub enum Told {
     /// The labels of all routers.

@@ -116,7 +116,8 @@ module _ (P : Problem) (L : List (Option Route)) where
 
     here : (ways : Ways) → standing_over P L edge ≡ Same → AreAllLinks (GoesOver P L edges edge.importer) ways →
         AreAllLinks (GoesOver P L (edges ++ edge ∷ []) edge.importer) (with_way ways edge.link)
-    here ways same all = said_of_same (OneMore (GoesOver P L edges edge.importer) edge.link) (GoesOver P L (edges ++ edge ∷ []) edge.importer) (λ n. there n) (λ n. back n)
+    here ways same all = said_of_same (OneMore (GoesOver P L edges edge.importer) edge.link) (GoesOver P L (edges ++ edge ∷ []) edge.importer) (λ n. there n)
+        (λ n. back n)
         (with_way ways edge.link) (one_more (GoesOver P L edges edge.importer) edge.link ways all)
       where
         there : (n : ℕ) → GoesOver P L edges edge.importer n ⊎ (n ≡ edge.link) → GoesOver P L (edges ++ edge ∷ []) edge.importer n
@@ -246,7 +247,8 @@ module _ (P : Problem) (L : List (Option Route)) where
         (subst (λ w. AreWays P L (take i edges ++ edge ∷ []) (set ways edge.importer w)) (ap (λ r. with_way r edge.link) (sym same_read) ∙ sym is)
         (same_more (take i edges) edge ways importer same are))
 
-  pub all_ties : (edges : List Edge) (i : ℕ) (ties : Ways) (tied : Option ℕ) → length edges ≤ i → AreTies P L (take i edges) ties tied → AreTies P L edges ties tied
+  pub all_ties : (edges : List Edge) (i : ℕ) (ties : Ways) (tied : Option ℕ) → length edges ≤ i → AreTies P L (take i edges) ties tied →
+      AreTies P L edges ties tied
   all_ties edges i ties tied past are = subst (λ l. AreTies P L l ties tied) (take_all i edges past) are
 
   pub all_edges : (edges : List Edge) (i : ℕ) (ways : List Ways) → length edges ≤ i → AreWays P L (take i edges) ways → AreWays P L edges ways

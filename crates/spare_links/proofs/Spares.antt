@@ -37,7 +37,11 @@ record Agree (c r : Route) : Type 0 where
 
 agree_same : (c r : Route) → Agree c r → standing_of c r ≡ Same
 agree_same c r a =
-    rw (eq-eqb (preference_of c) (preference_of r) a.preference, eq-eqb (size_of c) (size_of r) a.size, (bytes_eq-Decides (comms_of c) (comms_of r)).1 a.comms) refl
+    rw (
+      eq-eqb (preference_of c) (preference_of r) a.preference,
+      eq-eqb (size_of c) (size_of r) a.size,
+      (bytes_eq-Decides (comms_of c) (comms_of r)).1 a.comms,
+    ) refl
 
 same_agree : (c r : Route) → standing_of c r ≡ Same → Agree c r
 same_agree c r e = level (nat_eq (preference_of c) (preference_of r) && nat_eq (size_of c) (size_of r)) refl e
@@ -92,7 +96,8 @@ ospf_bare : (r : Route) → IsRouteOf OverOspf r → comms_of r ≡ []
 ospf_bare (Bgp lp path comms) is = absurd is
 ospf_bare (Ospf cost) is = refl
 
-module _ (P : Problem) (good : IsProblem P) (none : HasNoLone P) (L : List (Option Route)) (st : IsStable P L) (ways : List Ways) (are : AreWays P L P.edges ways) where
+module _ (P : Problem) (good : IsProblem P) (none : HasNoLone P) (L : List (Option Route)) (st : IsStable P L) (ways : List Ways)
+    (are : AreWays P L P.edges ways) where
   keyed : (c r : Route) → Agree c r → key_of P c ≡ key_of P r
   keyed c r a = keyed_plain P none c ∙ plain_same c r a ∙ sym (keyed_plain P none r)
 
@@ -107,7 +112,8 @@ module _ (P : Problem) (good : IsProblem P) (none : HasNoLone P) (L : List (Opti
       | inr ospf ↦ ospf_bare r (subst (λ p. IsRouteOf p r) ospf (st.fitting.routes u r lab))
     ]
 
-    same_comms : (u : ℕ) (r c : Route) → label L u ≡ Some r → IsCandidate P L u c → preference_of c ≡ preference_of r → size_of c ≡ size_of r → comms_of c ≡ comms_of r
+    same_comms : (u : ℕ) (r c : Route) → label L u ≡ Some r → IsCandidate P L u c → preference_of c ≡ preference_of r → size_of c ≡ size_of r →
+        comms_of c ≡ comms_of r
     same_comms u r c lab (of_init e) preference size =
         good.starts.bare u c e ∙ sym (label_bare u r c lab e (st.held u r (label_inside P good none L st u r lab) lab))
     same_comms u r c lab (of_edge edge i imp cand) preference size =
@@ -205,7 +211,8 @@ module _ (P : Problem) (good : IsProblem P) (none : HasNoLone P) (L : List (Opti
     some_beside None at some link other = absurd (some refl)
     some_beside (Some u) at some link other = tied_beside link u ties tying.links other at
 
-    pub are_spare : (marks : List Bool) → ((link : ℕ) → slice_index_or marks link false ≡ true → (u : ℕ) → u < length ways → slice_index_or ways u Nowhere ≢ OneLink link) →
+    pub are_spare : (marks : List Bool) → ((link : ℕ) → slice_index_or marks link false ≡ true → (u : ℕ) → u < length ways →
+        slice_index_or ways u Nowhere ≢ OneLink link) →
         ((link : ℕ) → slice_index_or marks link false ≡ true → ties ≢ OneLink link) → AreSpare P L marks tied
     are_spare marks only apart = record {
       spare = λ link marked. loses link (only link marked);

@@ -21,7 +21,8 @@ record HasVerdict (problem : Problem) (asked : Question) (verdict : Verdict) : T
   stable : IsStable problem labels
   is : IsVerdict problem (IsTrueIn asked problem) verdict
 
-kept : (P Q : Problem) (asked : Question) (verdict : Verdict) → KeepsAnswer P Q asked → IsVerdictKept asked verdict → IsVerdict P (IsTrueIn asked P) verdict → HasVerdict Q asked verdict
+kept : (P Q : Problem) (asked : Question) (verdict : Verdict) → KeepsAnswer P Q asked → IsVerdictKept asked verdict → IsVerdict P (IsTrueIn asked P) verdict →
+    HasVerdict Q asked verdict
 kept P Q asked Yes keeps is_kept is = let v = keeps.yes is in record { labels = v.some; stable = v.stable; is = v }
 kept P Q asked No keeps is_kept is = let v = keeps.no is_kept is in record { labels = v.labels; stable = v.stable; is = v }
 kept P Q asked NoSolution keeps is_kept is = absurd is_kept

@@ -39,7 +39,8 @@ pub ties : (P : Problem) (r : Route) (o : Option Route) (c : Route) → o ≡ So
 ties P r o c is same = ap (has_key_of P r) is ∙ ap (λ (k : Key). same_key k (key_of P r)) same ∙ same_key_self (key_of P r)
 
 -- a route of which the key is compared with that of the label
-has_key_by : (P : Problem) (route candidate : Route) (found : Option Route) (k : Key) (other : List ℕ) (b : Bool) → found ≡ Some candidate → k ≡ key_of P candidate →
+has_key_by : (P : Problem) (route candidate : Route) (found : Option Route) (k : Key) (other : List ℕ) (b : Bool) → found ≡ Some candidate →
+    k ≡ key_of P candidate →
     other ≡ chosen (is_lone_number P) (path_of route) → b ≡ same_key k (key_with route other) → b ≡ has_key_of P route found
 has_key_by P route candidate found k other b is keyed others told = told ∙ ap (λ (q : Key). same_key q (key_with route other)) keyed
     ∙ ap (same_key (key_of P candidate)) (route_key P route other others) ∙ sym (ap (has_key_of P route) is)

@@ -63,7 +63,8 @@ put_again n (x ∷ []) below up some last = with_same n x [] last
 put_again n (x ∷ y ∷ ys) below up some last =
     let less = up.0.0 in
     let top = below y (inr (inl refl)) in
-    with_less n x (y ∷ ys) (omega arith) ∙ ap (λ (l : List ℕ). x ∷ l) (put_again n (y ∷ ys) (λ v i. below v (inr i)) up.1 (omega arith) (sym (last_behind x y ys) ∙ last))
+    with_less n x (y ∷ ys) (omega arith) ∙ ap (λ (l : List ℕ). x ∷ l)
+    (put_again n (y ∷ ys) (λ v i. below v (inr i)) up.1 (omega arith) (sym (last_behind x y ys) ∙ last))
 
 -- no number before is above it, and the last is another one
 pub put_last : (n : ℕ) (xs : List ℕ) → ((v : ℕ) → In xs v → v ≤ n) → IsAscending xs → (0 < length xs → get_or xs (length xs - 1) 0 ≢ n) →
@@ -196,7 +197,8 @@ next_none P L u none = record {
 
 -- ---- by exporter
 
-ordered_at : (edges : List Edge) → AreOrdered edges → (i j : ℕ) (d : Edge) → i < j → j < length edges → Precedes (slice_index_or edges i d) (slice_index_or edges j d)
+ordered_at : (edges : List Edge) → AreOrdered edges → (i j : ℕ) (d : Edge) → i < j → j < length edges →
+    Precedes (slice_index_or edges i d) (slice_index_or edges j d)
 ordered_at [] up i j d less inside = absurd (omega arith)
 ordered_at (e ∷ edges) up zero zero d less inside = absurd (omega arith)
 ordered_at (e ∷ edges) up zero (suc j) d less inside = up.0 j d (omega arith)
@@ -208,7 +210,8 @@ rises a b u (inl less) p q = absurd (omega arith)
 rises a b u (inr s) p q = elim s.1 [ inl less ↦ omega arith | inr t ↦ (let e = t.0 in omega arith) ]
 
 -- the edges of one router stand by exporter
-pub own_rise : (edges : List Edge) (u first end : ℕ) → AreOrdered edges → first ≤ end → end ≤ length edges → AllWithin (λ edge. edge.importer ≡ u) edges first end →
+pub own_rise : (edges : List Edge) (u first end : ℕ) → AreOrdered edges → first ≤ end → end ≤ length edges →
+    AllWithin (λ edge. edge.importer ≡ u) edges first end →
     IsNonDecreasingBy (λ edge. edge.exporter) (own_of edges first end)
 own_rise edges u first end up forward inside own i j d le lt =
     let total = own_length edges first end forward inside in

@@ -15,7 +15,8 @@ use Rattle.srp_questions.specs.Walks.{rank, rank_size, AreOrderedRanks}
 use Rattle.srp_questions.proofs.ChainFacts.{next_smaller}
 
 -- the values of the first so many routers in the order are right, and those of routers without a label
-pub record IsFound {X : Type 0} (Right : ℕ → X → Type 0) (P : Problem) (L : List (Option Route)) (ranks : List Rank) (d : X) (k : ℕ) (values : List X) : Type 0 where
+pub record IsFound {X : Type 0} (Right : ℕ → X → Type 0) (P : Problem) (L : List (Option Route)) (ranks : List Rank) (d : X) (k : ℕ)
+    (values : List X) : Type 0 where
   pub total : length values ≡ count P
   pub done : (j : ℕ) (e : Rank) → j < k → j < length ranks → Right (slice_index_or ranks j e).router (get_or values (slice_index_or ranks j e).router d)
   pub alone : (u : ℕ) → u < count P → label L u ≡ None → Right u (get_or values u d)

@@ -27,7 +27,8 @@ module _ (labels : List (Option Route)) (k : ℕ) (ranks : List Rank) (upto : Ar
   with_more : (o : Option Route) → label labels k ≡ o → AreRanksUpto labels (k + 1) (ranks ++ cons_option (option_map (rank k) o) [])
   with_more None none = record {
     few = (let nothing : List Rank = [] in let l = length-append ranks nothing in let f = upto.few in omega (arith, l, f));
-    each = λ found c. elim (Contains-append_cases ranks [] found c) [ inl before ↦ upto.each found before | inr never ↦ absurd (let l = never.1 in omega arith) ];
+    each = λ found c. elim (Contains-append_cases ranks [] found c)
+        [ inl before ↦ upto.each found before | inr never ↦ absurd (let l = never.1 in omega arith) ];
     all = λ router route less e. elim (cases_lt router k) [
       | inl before ↦ Contains-append_left ranks [] (rank router route) (upto.all router route before e)
       | inr le ↦ absurd (let last : k ≡ router = omega arith in let f : label labels router ≡ None = ap (label labels) (sym last) ∙ none in cc)
@@ -60,7 +61,8 @@ module _ (labels : List (Option Route)) (k : ℕ) (ranks : List Rank) (upto : Ar
       let held : label labels k ≡ read = get_or_default labels k None read inside ∙ sym is in
       subst (AreRanksUpto labels (k + 1)) (sym are) (with_more read held)
 
-pub all_ranks : (labels : List (Option Route)) (k : ℕ) (ranks : List Rank) → length labels ≤ k → k < 2 ^ 32 → AreRanksUpto labels k ranks → AreRanks labels ranks
+pub all_ranks : (labels : List (Option Route)) (k : ℕ) (ranks : List Rank) → length labels ≤ k → k < 2 ^ 32 → AreRanksUpto labels k ranks →
+    AreRanks labels ranks
 all_ranks labels k ranks over few upto = record {
   few = (let f = upto.few in omega arith);
   each = upto.each;

@@ -70,7 +70,8 @@ pub holding : (L : List (Option Route)) (c u : ℕ) (o : Option Route) → label
     MatchBool (holds_community c o) (HoldsCommunity L c u) (¬ HoldsCommunity L c u)
 holding L c u None none = λ r e. absurd (cc)
 holding L c u (Some r) some = told_by (has (comms_of r) c) (HoldsCommunity L c u)
-    (λ e s f. (let one : r ≡ s = cc in subst (λ (x : Route). Contains (comms_of x) c) one (told_true (has (comms_of r) c) (Contains (comms_of r) c) (has_told (comms_of r) c) e)))
+    (λ e s f. (let one : r ≡ s = cc in subst (λ (x : Route). Contains (comms_of x) c) one
+    (told_true (has (comms_of r) c) (Contains (comms_of r) c) (has_told (comms_of r) c) e)))
     (λ all. true_told (has (comms_of r) c) (Contains (comms_of r) c) (has_told (comms_of r) c) (all r some))
 
 pub lacking : (L : List (Option Route)) (c u : ℕ) (o : Option Route) → label L u ≡ o →

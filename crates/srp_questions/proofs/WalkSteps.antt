@@ -160,7 +160,8 @@ module _ (P : Problem) (L : List (Option Route)) where
         (b : Bool) → b ≡ (is_marked allowed u && (is_marked goals u || list_any (is_marked reaching) next)) →
         MatchBool b (Reaches P L allowed goals u) (¬ Reaches P L allowed goals u)
     reach_step u next are reaching right b is = told_by b (Reaches P L allowed goals u) to
-        (λ r. is ∙ and_from (is_marked allowed u) (is_marked goals u || list_any (is_marked reaching) next) (beginning u r) (from r.behind r.chain r.through r.ends))
+        (λ r. is ∙ and_from (is_marked allowed u) (is_marked goals u || list_any (is_marked reaching) next) (beginning u r)
+        (from r.behind r.chain r.through r.ends))
       where
         to : b ≡ true → Reaches P L allowed goals u
         to e =

@@ -84,9 +84,11 @@ contains_at xs k d lt = (k, lt, same xs k d (slice_index_or xs k d) lt)
 pub importers_inside : (problem : Problem) → IsProblem problem → (edges : List Edge) → ((edge : Edge) → Contains edges edge → Contains problem.edges edge) →
     (routers : ℕ) → routers ≡ count problem → All (λ (edge : Edge). edge.importer < routers) edges
 importers_inside problem rules edges inside routers same = λ k d lt.
-    subst (λ n. (slice_index_or edges k d).importer < n) (sym same) (rules.edges.inside (slice_index_or edges k d) (inside (slice_index_or edges k d) (contains_at edges k d lt))).importer_in
+    subst (λ n. (slice_index_or edges k d).importer < n) (sym same)
+    (rules.edges.inside (slice_index_or edges k d) (inside (slice_index_or edges k d) (contains_at edges k d lt))).importer_in
 
 pub acts_inside : (problem : Problem) → IsProblem problem → (edges : List Edge) → ((edge : Edge) → Contains edges edge → Contains problem.edges edge) →
     (accepted : List Accepted) → AreOfActs problem.acts accepted → All (λ (edge : Edge). edge.act < length accepted) edges
 acts_inside problem rules edges inside accepted are = λ k d lt.
-    subst (λ n. (slice_index_or edges k d).act < n) (sym are.total) (rules.edges.inside (slice_index_or edges k d) (inside (slice_index_or edges k d) (contains_at edges k d lt))).act_in
+    subst (λ n. (slice_index_or edges k d).act < n) (sym are.total)
+    (rules.edges.inside (slice_index_or edges k d) (inside (slice_index_or edges k d) (contains_at edges k d lt))).act_in

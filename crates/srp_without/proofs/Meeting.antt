@@ -118,4 +118,5 @@ met_next acts accepted count edges i d met read next inside importers in_acts of
     let same : read ≡ get_or met edge.importer Nothing = at ∙ get_or-default met edge.importer read Nothing (omega arith) in
     let more = met_more acts (take i edges) edge count met (get_or accepted edge.act Nothing) importer (of_acts.each edge.act (omega arith)) are in
     subst (λ l. AreMet acts count l (set met edge.importer next)) (sym (take_more edges i d inside))
-    (subst (λ a. AreMet acts count (take i edges ++ edge ∷ []) (set met edge.importer a)) (ap (λ r. joined r (get_or accepted edge.act Nothing)) (sym same) ∙ sym is) more)
+    (subst (λ a. AreMet acts count (take i edges ++ edge ∷ []) (set met edge.importer a))
+    (ap (λ r. joined r (get_or accepted edge.act Nothing)) (sym same) ∙ sym is) more)

@@ -34,7 +34,8 @@ put_class-requires-clause-scene c =
       each_link = ap length (c.as_slice-links_down.ensures.value ∙ c.requires.plan.links) ∙ links_marked (names_of n) (links_of n) request.down
           ∙ ap length (sym links);
       names = (known.2.built.of p.0 p.1).names ∙ ap names_of (sym same);
-      left = subst (IsWithout c.args.known.now.whole (marked_down c.as_slice-routers_down.result.now c.as_slice-links_down.result.now)) (sym c.made_or-left.ensures) c.in_ok-made.ensures;
+      left = subst (IsWithout c.args.known.now.whole (marked_down c.as_slice-routers_down.result.now c.as_slice-links_down.result.now))
+          (sym c.made_or-left.ensures) c.in_ok-made.ensures;
       serves = known.2.serves;
     }
 

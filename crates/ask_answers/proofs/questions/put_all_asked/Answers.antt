@@ -30,5 +30,6 @@ loop-one-preserved c =
     }
 
 pub returns : goal.returns
-returns c = subst (λ (items : List AskedLine). WritesEach (IsAskedReport c.args.checked.now.network) items c.args.bytes.now.items c.loop-one.bytes.items c.loop-one.all)
+returns c = subst (λ (items : List AskedLine). WritesEach (IsAskedReport c.args.checked.now.network) items c.args.bytes.now.items c.loop-one.bytes.items
+    c.loop-one.all)
     (take_all c.loop-one.one-index c.args.asked.now c.loop-one-test.false) c.loop-one.invariant.written

@@ -42,5 +42,6 @@ returns c =
     let network = c.args.checked.now.network in
     let lines = c.as_slice-lines.result.now in
     subst (λ (ls : List TextLine). Pairwise (IsAskedLine network) ls c.loop-line.asked)
-    (ap (asking text) (take_all c.loop-line.line-index lines c.loop-line-test.false) ∙ whole_text text lines c.in_ok-found.found c.as_slice-lines.ensures c.in_ok-found.ensures.exact)
+    (ap (asking text) (take_all c.loop-line.line-index lines c.loop-line-test.false)
+    ∙ whole_text text lines c.in_ok-found.found c.as_slice-lines.ensures c.in_ok-found.ensures.exact)
     c.loop-line.invariant

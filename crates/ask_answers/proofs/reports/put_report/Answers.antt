@@ -50,7 +50,8 @@ known_after-requires-clause-class c =
     let within = span_within c.args.request.now.classes (classes_of n) c.args.span c.requires.span in
     let inside : c.loop-place.place < length classes = omega (arith, many, within, c.loop-place-test.true) in
     subst (λ (ks : List DestClass). Contains ks c.class_at-class.result.now) all
-    (subst (λ (k : DestClass). Contains classes k) (sym c.class_at-class.ensures) (All-contains_itself classes c.loop-place.place c.class_at-class.result.now inside))
+    (subst (λ (k : DestClass). Contains classes k) (sym c.class_at-class.ensures)
+    (All-contains_itself classes c.loop-place.place c.class_at-class.result.now inside))
 
 pub put_class_part-requires-clause-plan : goal.put_class_part-requires-clause-plan
 put_class_part-requires-clause-plan c =

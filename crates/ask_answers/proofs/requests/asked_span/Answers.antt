@@ -15,7 +15,8 @@ span_of-requires-clause-links c = c.as_slice-links.ensures ∙ c.requires.shared
 
 pub span_of-requires-clause-places : goal.span_of-requires-clause-places
 span_of-requires-clause-places c =
-    subst (λ (m : Network). ArePlacesOf (λ (router : Router). router.name) c.args.atlas.now.places m.routers) (sym c.network-network.ensures.same) c.requires.places
+    subst (λ (m : Network). ArePlacesOf (λ (router : Router). router.name) c.args.atlas.now.places m.routers)
+    (sym c.network-network.ensures.same) c.requires.places
 
 pub returns : goal.returns
 returns c = subst (λ (m : Network). IfOk c.span_of.result (IsSpanOf m c.args.request.now)) c.network-network.ensures.same c.span_of.ensures

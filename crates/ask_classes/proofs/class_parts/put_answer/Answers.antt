@@ -26,7 +26,8 @@ returns c =
     let is = c.in_ok-question.ensures whole.names asking.scene.now.links_down.now c.requires.marks in
     let line = string_bytes c.in_ok-line.line in
     subst (λ (q : Question). WritesAnswer c.args.shows number q left old c.put-2.new.bytes.items answer.verdict) is
-    (answer_written c.args.shows number c.in_ok-question.question left answer.verdict answer.tie old c.put.new.bytes.items c.put-2.new.bytes.items line answer.shown.items
+    (answer_written c.args.shows number c.in_ok-question.question left answer.verdict answer.tie old c.put.new.bytes.items c.put-2.new.bytes.items line
+    answer.shown.items
     c.in_ok-answer.ensures.answer c.in_ok-answer.ensures.shown c.in_ok-line.ensures
     (c.in_ok-put.ensures ∙ ap (λ (t : List ℕ). old ++ t) c.as_bytes.ensures.value)
     (c.in_ok-put-2.ensures ∙ ap (λ (t : List ℕ). c.put.new.bytes.items ++ t) c.deref.ensures.value))

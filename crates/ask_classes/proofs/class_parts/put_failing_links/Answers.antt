@@ -18,6 +18,8 @@ returns c =
     let left = asking.problems.now.left.now in
     let old = c.args.bytes.now.items in
     subst (Writes (IsFailingPart asking.asks.now number whole down losses left) old c.put_tally.new.bytes.items) (sym c.are_yes.ensures)
-    (failing_written asking.asks.now number whole down losses left old c.put_answer.new.bytes.items c.put_link_trials.new.bytes.items c.put_tally.new.bytes.items
-    (is_yes c.in_ok-verdict.verdict) c.in_ok-none_failed.none_failed c.in_ok-tally.tally c.requires.scene.left.names c.in_ok-verdict.ensures.written c.in_ok-tally.ensures
+    (failing_written asking.asks.now number whole down losses left old c.put_answer.new.bytes.items c.put_link_trials.new.bytes.items
+    c.put_tally.new.bytes.items
+    (is_yes c.in_ok-verdict.verdict) c.in_ok-none_failed.none_failed c.in_ok-tally.tally c.requires.scene.left.names c.in_ok-verdict.ensures.written
+    c.in_ok-tally.ensures
     c.in_ok-none_failed.ensures.bytes c.in_ok-none_failed.ensures.none)

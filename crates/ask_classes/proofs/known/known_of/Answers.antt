@@ -16,7 +16,9 @@ returns-in-Some c =
     let found = subst (λ (o : Option SpareLinks). IfSome o (λ s. HasSpareLinks left s.marks.items s.tied)) c.in-Some.is c.in_ok-spare.ensures in
     record {
       each = λ place loss less marked down_is.
-          subst (λ (t : Option Tie). IsTried asking.problems.now.whole.now asking.asks.now loss (record { verdict = c.args.verdict; tied = t })) (sym c.tie_beside.ensures)
-          (is_known c.spare_links_keep_verdicts.ensures asking c.requires.asking c.args.verdict keeps c.requires.verdict spare.marks.items spare.tied found place loss
+          subst (λ (t : Option Tie). IsTried asking.problems.now.whole.now asking.asks.now loss (record { verdict = c.args.verdict; tied = t }))
+          (sym c.tie_beside.ensures)
+          (is_known c.spare_links_keep_verdicts.ensures asking c.requires.asking c.args.verdict keeps c.requires.verdict spare.marks.items spare.tied found
+          place loss
           less marked down_is);
     }

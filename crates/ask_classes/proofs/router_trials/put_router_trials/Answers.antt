@@ -11,7 +11,8 @@ use Rattle.ask_classes.proofs.Trying.{none_tried, item_tried, all_tried, tried_f
 use Rattle.ask_classes.proofs.router_trials.put_router_trials.Goals as goal
 
 pub loop-place-init : goal.loop-place-init
-loop-place-init c = none_tried c.args.asking.now.problems.now.whole.now c.args.asking.now.asks.now c.args.bytes.now.items c.none-tally.result c.none-tally.ensures
+loop-place-init c = none_tried c.args.asking.now.problems.now.whole.now c.args.asking.now.asks.now c.args.bytes.now.items c.none-tally.result
+    c.none-tally.ensures
 
 pub try_router-requires-clause-tried : goal.try_router-requires-clause-tried
 try_router-requires-clause-tried c =
@@ -55,7 +56,8 @@ returns c =
     let end = c.len-place-end.ensures in
     let past = c.loop-place-test.false in
     let all : length (names_of network) ≤ c.loop-place.place = omega (arith, many, end, past) in
-    subst (λ (ns : List (List ℕ)). WritesTrials whole asking.asks.now (map (router_loss asking) (filter (router_left asking) (enumerate_from 0 ns))) c.args.bytes.now.items
+    subst (λ (ns : List (List ℕ)). WritesTrials whole asking.asks.now
+    (map (router_loss asking) (filter (router_left asking) (enumerate_from 0 ns))) c.args.bytes.now.items
     c.loop-place.bytes.items c.loop-place.tally) (sym c.requires.scene.names)
     (all_tried whole asking.asks.now (router_loss asking) (router_left asking) (names_of network) c.loop-place.place c.args.bytes.now.items
     c.loop-place.bytes.items c.loop-place.tally all c.loop-place.invariant)

@@ -12,7 +12,8 @@ pub loop-router-preserved : goal.loop-router-preserved
 loop-router-preserved c =
     let names = c.args.names.now in
     let f = λ (router : Router). is_among names router.name in
-    subst (λ ms. ms ++ map f (drop (c.loop-router.router-index + 1) c.as_slice-routers.result.now) ≡ map f c.as_slice-routers.result.now) (sym c.in_ok-push.ensures.items)
+    subst (λ ms. ms ++ map f (drop (c.loop-router.router-index + 1) c.as_slice-routers.result.now) ≡ map f c.as_slice-routers.result.now)
+    (sym c.in_ok-push.ensures.items)
     (step f c.as_slice-routers.result.now c.loop-router.router-index c.router-item.result c.loop-router.marks.items c.is_some.result _
     c.loop-router-test.true c.router-item.is
     (c.is_some.ensures ∙ ap is_some (c.place_of.ensures ∙ ap (place_in c.in_ok-places.places) c.as_str.ensures)

@@ -29,7 +29,8 @@ returns-in_ok-way-in-Through c = λ names links are.
     let marks = subst (λ a. AreMarksFor names a c.args.named.now) c.in-Through.is are in
     ap (λ way. question.Through way c.in_ok-routers.routers)
     (chosen_for names c.in-Through.field-0 c.args.down.now links _ _ _ c.in_ok-way-in-Through.ensures c.deref-in-Through.ensures.value marks.1)
-    ∙ ap (question.Through (routers_for names (marked_down c.args.down.now links) c.in-Through.field-0)) (chosen_for names c.in-Through.field-1 c.args.down.now links _ _ _ c.in_ok-routers.ensures c.deref.ensures.value marks.0)
+    ∙ ap (question.Through (routers_for names (marked_down c.args.down.now links) c.in-Through.field-0))
+    (chosen_for names c.in-Through.field-1 c.args.down.now links _ _ _ c.in_ok-routers.ensures c.deref.ensures.value marks.0)
     ∙ ap (question_for names (marked_down c.args.down.now links)) (sym c.in-Through.is)
 
 pub returns-in_ok-way-in-Avoids : goal.returns-in_ok-way-in-Avoids
@@ -37,12 +38,14 @@ returns-in_ok-way-in-Avoids c = λ names links are.
     let marks = subst (λ a. AreMarksFor names a c.args.named.now) c.in-Avoids.is are in
     ap (λ way. question.Avoids way c.in_ok-routers.routers)
     (chosen_for names c.in-Avoids.field-0 c.args.down.now links _ _ _ c.in_ok-way-in-Avoids.ensures c.deref-in-Avoids.ensures.value marks.1)
-    ∙ ap (question.Avoids (routers_for names (marked_down c.args.down.now links) c.in-Avoids.field-0)) (chosen_for names c.in-Avoids.field-1 c.args.down.now links _ _ _ c.in_ok-routers.ensures c.deref.ensures.value marks.0)
+    ∙ ap (question.Avoids (routers_for names (marked_down c.args.down.now links) c.in-Avoids.field-0))
+    (chosen_for names c.in-Avoids.field-1 c.args.down.now links _ _ _ c.in_ok-routers.ensures c.deref.ensures.value marks.0)
     ∙ ap (question_for names (marked_down c.args.down.now links)) (sym c.in-Avoids.is)
 
 pub returns-in-Carries : goal.returns-in-Carries
 returns-in-Carries c = λ names links are.
-    ap (question.Carries c.in-Carries.community) (chosen_for names c.in-Carries.field-1 c.args.down.now links _ _ _ c.in_ok-routers.ensures c.deref.ensures.value
+    ap (question.Carries c.in-Carries.community) (chosen_for names c.in-Carries.field-1 c.args.down.now links _ _ _ c.in_ok-routers.ensures
+    c.deref.ensures.value
     (subst (λ a. AreMarksFor names a c.args.named.now) c.in-Carries.is are))
     ∙ ap (question_for names (marked_down c.args.down.now links)) (sym c.in-Carries.is)
 

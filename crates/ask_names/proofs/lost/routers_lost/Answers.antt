@@ -9,7 +9,8 @@ use Rattle.ask_names.proofs.lost.routers_lost.Goals as goal
 pub loop-router-preserved : goal.loop-router-preserved
 loop-router-preserved c =
     let f = λ (router : Router). list_any (is_router_lost router.name) c.args.items.now in
-    subst (λ ms. ms ++ map f (drop (c.loop-router.router-index + 1) c.as_slice-routers.result.now) ≡ map f c.as_slice-routers.result.now) (sym c.in_ok-push.ensures.items)
+    subst (λ ms. ms ++ map f (drop (c.loop-router.router-index + 1) c.as_slice-routers.result.now) ≡ map f c.as_slice-routers.result.now)
+    (sym c.in_ok-push.ensures.items)
     (step f c.as_slice-routers.result.now c.loop-router.router-index c.router-item.result c.loop-router.marks.items c.contains.result _
     c.loop-router-test.true c.router-item.is
     (c.contains.ensures ∙ c.in_ok-down.ensures _ ∙ ap (λ name. list_any (is_router_lost name) c.args.items.now) c.as_str.ensures)

@@ -10,7 +10,8 @@ returns-in-Some c =
     let asked = c.args.question.now in
     let shows = c.args.shows in
     let ends = c.in_ok-ending.ensures.ends (unseen problem asked shows) in
-    let seen = seen_as problem _ asked _ shows _ _ _ ends.0 c.in_ok-ending.ensures.problem (ap (λ (t : Bor Question × Bool). t.0.now) c.in_ok-ending.ensures.task)
+    let seen = seen_as problem _ asked _ shows _ _ _ ends.0 c.in_ok-ending.ensures.problem
+    (ap (λ (t : Bor Question × Bool). t.0.now) c.in_ok-ending.ensures.task)
     (ap (λ (t : Bor Question × Bool). t.1) c.in_ok-ending.ensures.task) ends.1 in
     let failure = rw c.in-Some.is at seen.fails in
     record {
@@ -24,11 +25,13 @@ returns c =
     let asked = c.args.question.now in
     let shows = c.args.shows in
     let ends = c.in_ok-ending.ensures.ends (unseen problem asked shows) in
-    let seen = seen_as problem _ asked _ shows _ _ _ ends.0 c.in_ok-ending.ensures.problem (ap (λ (t : Bor Question × Bool). t.0.now) c.in_ok-ending.ensures.task)
+    let seen = seen_as problem _ asked _ shows _ _ _ ends.0 c.in_ok-ending.ensures.problem
+    (ap (λ (t : Bor Question × Bool). t.0.now) c.in_ok-ending.ensures.task)
     (ap (λ (t : Bor Question × Bool). t.1) c.in_ok-ending.ensures.task) ends.1 in
     let last = rw c.in-All.is at ends.2 in
     record {
-      answer = answer_all problem asked ends.0 (wants_more c.search.new.visitor.failed) c.keys_decide.ensures c.count-known.ensures.rules shows c.search.new.visitor.some c.search.new.visitor.failed seen c.in_default.is c.in-All.tie last
+      answer = answer_all problem asked ends.0 (wants_more c.search.new.visitor.failed) c.keys_decide.ensures c.count-known.ensures.rules shows
+          c.search.new.visitor.some c.search.new.visitor.failed seen c.in_default.is c.in-All.tie last
           c.verdict_of.result c.verdict_of.ensures;
       shown = shown_all problem asked shows c.search.new.visitor.some c.new.result.items c.new.ensures.items c.verdict_of.result c.verdict_of.ensures;
     }

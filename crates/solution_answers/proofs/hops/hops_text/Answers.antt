@@ -44,5 +44,6 @@ returns c =
     record {
       hops = hops;
       are = subst (AreNextHops c.args.srp.now labels) (sym c.as_slice-hops.ensures) c.in_ok-hops.ensures;
-      text_is = c.loop-router.invariant ∙ ap (λ (l : List (List ℕ)). flat_map (hops_line names labels) (enumerate_from 0 l)) (take_all c.loop-router.router hops c.loop-router-test.false);
+      text_is = c.loop-router.invariant ∙ ap (λ (l : List (List ℕ)). flat_map (hops_line names labels) (enumerate_from 0 l))
+          (take_all c.loop-router.router hops c.loop-router-test.false);
     }

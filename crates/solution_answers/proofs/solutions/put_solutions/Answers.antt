@@ -6,7 +6,8 @@ use Rattle.solution_answers.proofs.solutions.put_solutions.Goals as goal
 pub returns : goal.returns
 returns c =
     let srp = c.args.srp.now in
-    let start = subst (λ (b : List ℕ). HasTold srp c.args.told c.args.one c.args.number 0 b []) (sym c.new.ensures.items) (none_told srp c.args.told c.args.one c.args.number) in
+    let start = subst (λ (b : List ℕ). HasTold srp c.args.told c.args.one c.args.number 0 b []) (sym c.new.ensures.items)
+    (none_told srp c.args.told c.args.one c.args.number) in
     let ends = c.in_ok-search.ensures.ends start in
     let new = c.search.new.visitor in
     let told = told_same new.srp.now srp (new.told, new.one, new.number) (c.args.told, c.args.one, c.args.number) new.count new.bytes.items ends.0

@@ -15,5 +15,6 @@ returns c =
     let none = none_lone problem (ap (list_any (λ (mark : Bool). mark)) (sym c.lone.ensures) ∙ sym c.has_mark.ensures ∙ c.if-has_mark.false) in
     are_spare problem c.count-known.ensures.rules none labels c.requires found.ways.items c.in_ok-found.ensures.ways found.ties found.tied
     c.in_ok-found.ensures.ties marks
-    (subst (λ (ways : List Ways). (link : ℕ) → slice_index_or marks link false ≡ true → (u : ℕ) → u < length ways → slice_index_or ways u Nowhere ≢ OneLink link)
+    (subst (λ (ways : List Ways). (link : ℕ) → slice_index_or marks link false ≡ true → (u : ℕ) → u < length ways →
+    slice_index_or ways u Nowhere ≢ OneLink link)
     c.deref.ensures.value c.in_ok-marks.ensures.ways) c.in_ok-marks.ensures.ties

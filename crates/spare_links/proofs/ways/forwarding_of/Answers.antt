@@ -13,12 +13,14 @@ use Rattle.spare_links.proofs.ways.forwarding_of.Goals as goal
 use Rattle.spare_links.proofs.ways.forwarding_of.Goals.{in-Apart, in-Same, in-Tied}
 
 -- the edge at a place is one of the problem
-inside_at : (problem : Problem) (edges : List Edge) (i : ℕ) (d : Edge) → IsProblem problem → edges ≡ problem.edges → i < length edges → IsEdgeOf problem (get_or edges i d)
+inside_at : (problem : Problem) (edges : List Edge) (i : ℕ) (d : Edge) → IsProblem problem → edges ≡ problem.edges → i < length edges →
+    IsEdgeOf problem (get_or edges i d)
 inside_at problem edges i d rules are lt =
     rules.edges.inside (get_or edges i d) (subst (λ (l : List Edge). Contains l (get_or edges i d)) are (Contains-get_or edges i d lt))
 
 -- the same, as it is named behind a branch
-as_named : (problem : Problem) (labels : List (Option Route)) (edges : List Edge) (ties named : Ways) (tied named_tied : Option ℕ) → named ≡ ties → named_tied ≡ tied →
+as_named : (problem : Problem) (labels : List (Option Route)) (edges : List Edge) (ties named : Ways) (tied named_tied : Option ℕ) → named ≡ ties →
+    named_tied ≡ tied →
     AreTies problem labels edges ties tied → AreTies problem labels edges named named_tied
 as_named problem labels edges ties named tied named_tied first second are =
     subst (λ t. AreTies problem labels edges t named_tied) (sym first) (subst (λ t. AreTies problem labels edges ties t) (sym second) are)
@@ -53,7 +55,8 @@ loop-edge-preserved c =
       | in-Apart w ↦ (
           let apart = sym c.in_ok-standing_over.ensures ∙ w.in-Apart.is in
           record {
-            ways = subst Forward (ap (λ v. v.items) (sym w.ways-is)) (aside_next problem labels edges i _ lt ways (λ same. let other = sym apart ∙ same in cc) before.ways);
+            ways = subst Forward (ap (λ v. v.items) (sym w.ways-is))
+                (aside_next problem labels edges i _ lt ways (λ same. let other = sym apart ∙ same in cc) before.ways);
             ties = as_named problem labels (take (i + 1) edges) ties c.match-branch-3.ties tied c.match-branch-3.tied w.ties-is w.tied-is
                 (stay_next problem labels edges i _ lt ties tied (λ is. let other = sym apart ∙ is in cc) before.ties);
           })
@@ -69,8 +72,10 @@ loop-edge-preserved c =
       | in-Tied w ↦ (
           let is = sym c.in_ok-standing_over.ensures ∙ w.in-Tied.is in
           record {
-            ways = subst Forward (ap (λ v. v.items) (sym w.ways-is)) (aside_next problem labels edges i _ lt ways (λ same. let other = sym is ∙ same in cc) before.ways);
-            ties = tied_next problem labels edges i _ lt ties c.match-branch-3.ties tied c.match-branch-3.tied is (w.ties-is ∙ w.with-ties.ensures) w.tied-is before.ties;
+            ways = subst Forward (ap (λ v. v.items) (sym w.ways-is))
+                (aside_next problem labels edges i _ lt ways (λ same. let other = sym is ∙ same in cc) before.ways);
+            ties = tied_next problem labels edges i _ lt ties c.match-branch-3.ties tied c.match-branch-3.tied is
+                (w.ties-is ∙ w.with-ties.ensures) w.tied-is before.ties;
           })
     ]
 

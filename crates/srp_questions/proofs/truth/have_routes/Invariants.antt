@@ -5,4 +5,5 @@ use Rattle.srp_questions.proofs.truth.have_routes.Given as goal
 
 -- all that are left pass where all do
 abbrev pub invariant-loop-router : goal.invariant-loop-router
-invariant-loop-router l = list_all (λ u. is_some (label l.labels u)) (drop l.router-index l.router-items) ≡ list_all (λ u. is_some (label l.labels u)) l.router-items
+invariant-loop-router l = list_all (λ u. is_some (label l.labels u)) (drop l.router-index l.router-items) ≡
+    list_all (λ u. is_some (label l.labels u)) l.router-items
