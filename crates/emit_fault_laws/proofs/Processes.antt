@@ -69,11 +69,13 @@ made_area area x l made = step x.address made
     step (Some a) e = let same : ◌≡◌ {A = AreaLine} (record { addr = a.addr; wild = 0; area = area; line = 0 }) l = cc in
         ap (λ (x : AreaLine). x.area) (sym same)
 
-one_area : (q : Protocol) (e : Plan) (g : ℕ) (l : AreaLine) → In (option_map_or (λ (process : OspfProcess). process.areas) (ospf_of q e g) []) l → l.area ≡ area_number e
+one_area : (q : Protocol) (e : Plan) (g : ℕ) (l : AreaLine) → In (option_map_or (λ (process : OspfProcess). process.areas) (ospf_of q e g) []) l →
+    l.area ≡ area_number e
 one_area protocol.Bgp e g l h = absurd h
 one_area protocol.Ospf e g l h = step (class_interfaces e g ++ link_interfaces e g) h
   where
-    step : (xs : List Interface) → In (option_map_or (λ (process : OspfProcess). process.areas) (ospf_on (area_number e) (class_interfaces e g) xs) []) l → l.area ≡ area_number e
+    step : (xs : List Interface) → In (option_map_or (λ (process : OspfProcess). process.areas) (ospf_on (area_number e) (class_interfaces e g) xs) []) l →
+        l.area ≡ area_number e
     step [] h = absurd h
     step (x ∷ xs) h = let f = filter_map_in (host_area_line (area_number e)) (x ∷ xs) l h in made_area (area_number e) f.0 l f.2
 

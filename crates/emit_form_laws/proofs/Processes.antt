@@ -210,7 +210,8 @@ area_form e plan = step (slice_get (area_lines e.network) 0) refl
         let r = flat_map_in areas_of e.network.routers line (get_in (area_lines e.network) 0 line is) in
         on r.0.ospf (router_forms e.network plan.well_formed r.0 r.1).ospf r.2
       where
-        on : (o : Option OspfProcess) → IfSome o IsWellFormedOspf → In (option_map_or (λ (process : OspfProcess). process.areas) o []) line → line.area ≤ 4294967295
+        on : (o : Option OspfProcess) → IfSome o IsWellFormedOspf → In (option_map_or (λ (process : OspfProcess). process.areas) o []) line →
+            line.area ≤ 4294967295
         on None form h = absurd h
         on (Some process) form h = (all_in IsWellFormedArea process.areas line form.areas h).area
 

@@ -11,6 +11,7 @@ use base_kit::{List, NoMemory, Text};
 use route_run::{
     Activation, ScheduleRefusal, activate, moving, reach, read_schedule, run_schedule,
 };
+use shared_routes::SharedLabels;
 use srp_core::{Labels, Srp};
 use std::alloc::Global;
 
@@ -28,7 +29,7 @@ pub fn schedule_in(
 }
 
 /// Lets a router choose anew, and says whether its label changed.
-pub fn step(alloc: Global, srp: &Srp, labels: &mut Labels, u: u32) -> Result<bool, NoMemory>
+pub fn step(alloc: Global, srp: &Srp, labels: &mut SharedLabels, u: u32) -> Result<bool, NoMemory>
     requires router { u < count srp.now }
     requires labels { AreLabels srp.now labels.old }
     ensures ok { IfOk result (λ _. labels.new ≡ activated srp.now labels.old u) }
@@ -43,7 +44,7 @@ pub fn labels_after_all(
     alloc: Global,
     srp: &Srp,
     schedule: &List<Activation>,
-) -> Result<Labels, NoMemory>
+) -> Result<SharedLabels, NoMemory>
     requires { All (λ u. u < count srp.now) (run_of (count srp.now) schedule.now) }
     ensures { IfOk result (λ labels. labels ≡ labels_after srp.now (no_labels srp.now) (run_of (count srp.now) schedule.now)) }
 {
@@ -51,7 +52,11 @@ pub fn labels_after_all(
 }
 
 /// The first router that would change its label.
-pub fn first_moving(alloc: Global, srp: &Srp, labels: &Labels) -> Result<Option<u32>, NoMemory>
+pub fn first_moving(
+    alloc: Global,
+    srp: &Srp,
+    labels: &SharedLabels,
+) -> Result<Option<u32>, NoMemory>
     requires { AreLabels srp.now labels.now }
     ensures { IfOk result (λ router. MatchOption router (IsStable srp.now labels.now) (IsFirstMoving srp.now labels.now)) }
 {

@@ -8,9 +8,9 @@ use std::test::Fail;
 fn hashing_with(count: u32, last: u32) -> NumberHashing {
     let mut numbers = NumberDigest::for_count(count as usize);
     for number in 1..count {
-        numbers.add(&number);
+        numbers.add_number(u64::from(number));
     }
-    numbers.add(&last);
+    numbers.add_number(u64::from(last));
     numbers.hashing()
 }
 
