@@ -25,7 +25,7 @@ def words() -> argparse.ArgumentParser:
     """The words of the command line."""
     made = parser(
         "all",
-        "Measures two states of the program: `bench/turns --keep`, the same with --memory, `bench/profile --keep`, and of the state after `bench/paper --keep` and"
+        "Measures two states of the program: `bench/turns --keep`, the same with --memory and with --instructions, `bench/profile --keep`, and of the state after `bench/paper --keep` and"
         " `bench/turns --questions --keep`; of the checkouts in which the programs were built `bench/tools --keep`, which takes some six minutes of the time;"
         " then `bench/plot` writes the plots and the tables of the pages. A run that ended early goes on where it was, except for the tools. Takes about twenty minutes, and longer where"
         " many rows of the states differ: these get more turns.",
@@ -88,6 +88,7 @@ def packages(asks: bool) -> list[str]:
     needed = {
         "linux-perf": shutil.which("perf"),
         "time": os.access(paper.TIME, os.X_OK),
+        "valgrind": shutil.which("valgrind"),
         "python3-matplotlib": importlib.util.find_spec("matplotlib"),
         "graphviz": shutil.which("dot"),
         "python3-graphviz": importlib.util.find_spec("graphviz"),
@@ -106,6 +107,7 @@ def steps(arguments: argparse.Namespace) -> list[Step]:
     return [
         (turns, [*both, *anew, "--runs", str(arguments.runs)]),
         (turns, [*both, *anew, "--memory", "--runs", "3"]),
+        (turns, [*both, *anew, "--instructions"]),
         (profile, both),
         (paper, ["--keep", "--program", str(programs[1]), "--named", names[1]]),
         (turns, [str(programs[1]), "--questions", "--keep", "--runs", str(arguments.runs), "--named", names[1]]),

@@ -13,13 +13,17 @@ from collections.abc import Callable
 from pathlib import Path
 from typing import IO, Any
 
-from bonsainet.bench.measures import MEMORY, SECONDS, Measure, Run
+from bonsainet.bench.measures import INSTRUCTIONS, MEMORY, SECONDS, Measure, Run
 from bonsainet.cli.command_line import write_output
 from bonsainet.ask.program import TOP
 
 FOLDER = TOP / "bench" / "measured"
 KEYS = ("shape", "size", "command", "routers", "links", "classes", "bytes", "turns", "load")
-FIGURES = {SECONDS.name: ("before", "user_before", "after", "user_after"), MEMORY.name: ("before", "after")}
+FIGURES = {
+    SECONDS.name: ("before", "user_before", "after", "user_after"),
+    MEMORY.name: ("before", "after"),
+    INSTRUCTIONS.name: ("before", "after"),
+}
 KINDS = {"shape": str, "command": str, "load": float}
 
 

@@ -8,9 +8,9 @@ from pathlib import Path
 
 from bonsainet.bench import profile, questions, tool_rows
 from bonsainet.bench.kept import Table
-from bonsainet.bench.measures import MEMORY, SECONDS
+from bonsainet.bench.measures import INSTRUCTIONS, MEMORY, SECONDS
 from bonsainet.bench.paper import KEPT, Row, read, table
-from bonsainet.bench.tables import memory_text, turns_text
+from bonsainet.bench.tables import instructions_text, memory_text, turns_text
 from bonsainet.cli.command_line import Refused, parser
 from bonsainet.ask.program import TOP
 from bonsainet.repo.marks import with_measured
@@ -64,7 +64,7 @@ def texts() -> dict[str, str]:
     rows = read(KEPT)
     told = KEPT.read_text("ascii").partition("\n")[0].removeprefix("# ")
     made = {"all": table(rows) + f"\nMade with: {told}.\n", "some": short_table(rows)}
-    for measure, text in ((SECONDS, turns_text), (MEMORY, memory_text)):
+    for measure, text in ((SECONDS, turns_text), (MEMORY, memory_text), (INSTRUCTIONS, instructions_text)):
         kept = Table.read(measure)
         if kept.rows:
             made[measure.name] = text(kept)

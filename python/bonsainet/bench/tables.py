@@ -13,6 +13,8 @@ MOST_GROWTH = 2.3
 # (a figure that grows hardly faster than what is read and written)
 AS_BYTES = 1.15
 FOR_EACH_CLASS = ("summary", "trial")
+# (the same instructions are counted twice; so much is the addresses that the system chooses)
+MORE_INSTRUCTIONS = 1.02
 
 
 def turns_text(table: Table) -> str:
@@ -69,6 +71,42 @@ def memory_text(table: Table) -> str:
         )
         + "\n"
     )
+
+
+def instructions_text(table: Table) -> str:
+    """The table of instructions: a row for each command, a column for each network, and commands that make their own
+    networks below it."""
+    commands = [name for name in dict.fromkeys(row.command for row in table.rows) if name != "trial"]
+    networks = list(dict.fromkeys((row.shape, row.routers) for row in table.rows if row.command != "trial"))
+    found = {(row.shape, row.routers, row.command): row for row in table.rows}
+    lines = [
+        "| command | " + " | ".join(f"{shape} {routers:,}" for shape, routers in networks) + " |",
+        "|---|" + "---:|" * len(networks),
+    ]
+    for command in commands:
+        of_command = [found.get((*network, command)) for network in networks]
+        lines.append(f"| `{command}` | " + " | ".join(_counted(row) if row else "" for row in of_command) + " |")
+    trials = [f"{row.routers:,} routers {_counted(row)}" for row in table.rows if row.command == "trial"]
+    more = [row for row in table.rows if row.after > MORE_INSTRUCTIONS * row.before]
+    told = [f"{row.shape} {row.routers:,} `{row.command}` {row.after / row.before:.2f}" for row in more]
+    return (
+        "\n".join(
+            [
+                *lines,
+                "",
+                "Each cell has the million instructions of the state after, and their factor to those of the state before.",
+                "",
+                *([f"- `trial` on fat trees: {'; '.join(trials)}."] if trials else []),
+                f"- More by over {100 * MORE_INSTRUCTIONS - 100:.0f} %, of {len(table.rows)} rows: {'; '.join(told) or 'none'}.",
+                f"- Made with: {table.told}.",
+            ]
+        )
+        + "\n"
+    )
+
+
+def _counted(row: Row) -> str:
+    return f"{row.after:,.1f} ({row.after / row.before:.2f})"
 
 
 def _load(rows: list[Row]) -> str:

@@ -38,6 +38,7 @@ SUMMARY_SIZES = (128, 256, 512)
 LOOPBACKS_SIZES = (512, 1024)
 TRIALS = (8, 12, 20)
 MEMORY_COMMANDS = ("classes", "groups", "compress")
+COUNTED_SIZES = (256,)
 MOST_BYTES = 16777216
 Planned = tuple[str, str, tuple[int, ...]]
 
@@ -73,7 +74,7 @@ def words() -> argparse.ArgumentParser:
     made.add_argument(
         "--instructions",
         action="store_true",
-        help="count instructions, in millions, by one run of each program under valgrind, and measure no time",
+        help="count instructions, in millions, by one run of each program under valgrind, and measure no time; with --keep on networks of 256 routers",
     )
     made.add_argument(
         "--runs",
@@ -84,7 +85,7 @@ def words() -> argparse.ArgumentParser:
     made.add_argument(
         "--keep",
         action="store_true",
-        help="keep the rows in bench/measured (turns.csv or memory.csv), and measure only what is not kept there of these programs",
+        help="keep the rows in bench/measured (turns.csv, memory.csv or instructions.csv), and measure only what is not kept there of these programs",
     )
     made.add_argument(
         "--anew", action="store_true", help="with --keep: measure again what is kept of these commands and shapes"
@@ -114,12 +115,12 @@ def work(arguments: argparse.Namespace) -> None:
     programs = [program_at(program) for program in arguments.programs]
     if arguments.memory and not os.access(TIME, os.X_OK):
         raise Refused("the program time is not there: install the package time")
-    if arguments.instructions and (arguments.memory or arguments.keep or not shutil.which("valgrind")):
-        raise Refused("--instructions goes without --memory and --keep, and needs the package valgrind")
+    if arguments.instructions and (arguments.memory or not shutil.which("valgrind")):
+        raise Refused("--instructions goes without --memory, and needs the package valgrind")
     measure = MEMORY if arguments.memory else INSTRUCTIONS if arguments.instructions else SECONDS
     commands = tuple(arguments.command or (MEMORY_COMMANDS if arguments.memory and arguments.keep else COMMANDS))
     shapes = arguments.shape or [*SHAPES, FAT_TREE]
-    sizes = numbers(arguments.sizes) if arguments.sizes else SIZES[-1:] if arguments.memory and arguments.keep else None
+    sizes = numbers(arguments.sizes) if arguments.sizes else kept_sizes(measure) if arguments.keep else None
     table = None
     if arguments.keep:
         told = told_of(programs, names_of(arguments.named, programs))
@@ -153,6 +154,11 @@ def measure_questions(arguments: argparse.Namespace) -> None:
     if any(others) or len(arguments.programs) != 1:
         raise Refused("--questions takes one program, --runs, --keep and --named alone")
     questions.work(program_at(arguments.programs[0]), arguments.runs, arguments.keep, arguments.named)
+
+
+def kept_sizes(measure: Measure) -> tuple[int, ...] | None:
+    """The sizes of the rows that are kept of a measure; of seconds the usual ones of each command."""
+    return {MEMORY.name: SIZES[-1:], INSTRUCTIONS.name: COUNTED_SIZES}.get(measure.name)
 
 
 def numbers(text: str) -> tuple[int, ...]:

@@ -4,8 +4,8 @@ from pathlib import Path
 import pytest
 
 from bonsainet.bench.kept import Row, Table
-from bonsainet.bench.measures import MEMORY, SECONDS
-from bonsainet.bench.tables import growth, judgement, memory_text, turns_text
+from bonsainet.bench.measures import INSTRUCTIONS, MEMORY, SECONDS
+from bonsainet.bench.tables import growth, instructions_text, judgement, memory_text, turns_text
 
 
 def row(size: int, command: str, before: float, after: float, shape: str = "ospf-ring", **more: int) -> Row:
@@ -97,3 +97,17 @@ def test_memory_of_both_states() -> None:
         "| bgp-ring | 64 | 20, 10 | 30, 31 |" in text
         and "The most is now 31 MiB. Made with: told, at a load of 1.5 to 1.5." in text
     )
+
+
+def test_instructions_of_both_states() -> None:
+    made = [
+        row(256, "groups", 20.0, 15.0),
+        row(256, "check", 10.0, 10.3),
+        row(225, "groups", 40.0, 40.4, "ospf-grid"),
+        row(80, "trial", 1000.0, 900.0, "fat-tree"),
+    ]
+    text = instructions_text(Table(INSTRUCTIONS, Path("unused"), "told", made))
+    assert "| command | ospf-ring 256 | ospf-grid 225 |\n" in text
+    assert "| `groups` | 15.0 (0.75) | 40.4 (1.01) |\n| `check` | 10.3 (1.03) |  |\n" in text
+    assert "- `trial` on fat trees: 80 routers 900.0 (0.90).\n" in text
+    assert "- More by over 2 %, of 4 rows: ospf-ring 256 `check` 1.03.\n- Made with: told.\n" in text

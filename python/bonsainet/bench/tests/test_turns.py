@@ -11,7 +11,7 @@ from bonsainet.repo import packing
 from bonsainet.bench import everything, kept, turns
 from bonsainet.bench.inputs import outward, second_files
 from bonsainet.bench.kept import Row, Table
-from bonsainet.bench.measures import LONG, MEMORY, SECONDS, Measure, in_turn, least, wanted
+from bonsainet.bench.measures import INSTRUCTIONS, LONG, MEMORY, SECONDS, Measure, in_turn, least, wanted
 from bonsainet.bench.shapes import SHAPES, ring
 from bonsainet.bench.states import kind, machine, names_of, told_of
 from bonsainet.bench.turns import COMMANDS, LOOPBACKS_SIZES, SIZES, SUMMARY_SIZES, TRIALS, head, line, measured, plan
@@ -278,6 +278,7 @@ def test_all_measurements_are_made_of_two_states(programs) -> None:
     assert [name for name in names if name != "tools"] == [
         "turns",
         "turns",
+        "turns",
         "profile",
         "paper",
         "turns",
@@ -291,7 +292,7 @@ def test_what_a_later_step_needs_is_looked_for_first(tmp_path, monkeypatch) -> N
     monkeypatch.setattr("shutil.which", lambda _name: None)
     monkeypatch.setattr("importlib.util.find_spec", lambda _name: None)
     monkeypatch.setattr("bonsainet.bench.paper.TIME", str(tmp_path / "time"))
-    with pytest.raises(Refused, match="packages linux-perf, time, python3-matplotlib"):
+    with pytest.raises(Refused, match="packages linux-perf, time, valgrind, python3-matplotlib"):
         everything.work(everything.words().parse_args([str(tmp_path), str(tmp_path)]))
     assert "z3" in everything.packages(True) and "z3" not in everything.packages(False)
     monkeypatch.setattr(everything, "packages", lambda _asks: [])
@@ -301,10 +302,20 @@ def test_what_a_later_step_needs_is_looked_for_first(tmp_path, monkeypatch) -> N
         everything.work(everything.words().parse_args([str(tmp_path / "bonsai"), str(tmp_path / "bonsai")]))
 
 
-def test_instructions_are_counted_alone(programs) -> None:
-    for more in ("--memory", "--keep"):
-        with pytest.raises(Refused, match="--instructions"):
-            turns.work(turns.words().parse_args([*map(str, programs), "--instructions", more]))
+def test_instructions_go_without_memory(programs) -> None:
+    with pytest.raises(Refused, match="--instructions"):
+        turns.work(turns.words().parse_args([*map(str, programs), "--instructions", "--memory"]))
+
+
+def test_kept_instructions_are_those_of_few_routers(folder, programs, monkeypatch, capsys) -> None:
+    figures = iter((2.0, 1.0))
+    monkeypatch.setattr(turns, "INSTRUCTIONS", dataclasses.replace(INSTRUCTIONS, of=lambda *_asked: (next(figures),)))
+    asked = [*map(str, programs), "--keep", "--instructions", "--shape", "ospf-ring", "--command", "groups"]
+    for lines in (3, 2):
+        turns.work(turns.words().parse_args(asked))
+        assert len(capsys.readouterr().out.splitlines()) == lines
+    (row,) = Table.read(INSTRUCTIONS).rows
+    assert (row.routers, row.turns, row.before, row.after) == (256, 1, 2.0, 1.0)
 
 
 def test_the_figure_is_measured_where_the_program_is_given(tmp_path: Path, monkeypatch: pytest.MonkeyPatch) -> None:
