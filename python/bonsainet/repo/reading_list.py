@@ -90,7 +90,7 @@ class Beside:
     @property
     def lines(self) -> int:
         """The lines of types and clauses."""
-        return sum(len(found.lines) for found in self.types) + self.own_lines + self.trait_lines
+        return sum(found.count for found in self.types) + self.own_lines + self.trait_lines
 
     def shown(self, clause: str, definitions: int) -> Iterator[str]:
         """The lines that list it."""
@@ -98,7 +98,7 @@ class Beside:
         for found in self.types:
             by_file.setdefault(found.file, []).append(found)
         for file, types in by_file.items():
-            count = sum(len(found.lines) for found in types)
+            count = sum(found.count for found in types)
             yield f"{count:5}  {file.relative_to(CRATES)}: {' '.join(found.name for found in types)}"
         yield f"{self.own_lines:5}  {START.relative_to(CRATES)}: the clause {clause}"
         if self.trait_lines:
@@ -141,10 +141,22 @@ def beside(clause: str, order: list[Place]) -> Beside:
     """What a clause of `run` rests on beside the definitions that it reaches."""
     wanted = clauses(top_text(), clause)
     used = [(File.of(START), words_of(wanted)), *words_at(order)]
+    ends = clauses(ends_text()) if cites_ends(wanted) else ""
+    used += [(File.of(ENDS), words_of(ends))] if ends else []
     declared = {here.declared[word] for here, words in used for word in words if word in here.declared}
-    cites_ends = any(word in ("S", "O", "E") for word in re.findall(r"\b([A-Z])\.", wanted))
-    ends = len(clauses(ends_text()).splitlines()) if cites_ends else 0
-    return Beside(types_named(sorted(declared)), len(wanted.splitlines()), ends, sorted(of_kit(used)))
+    return Beside(types_named(sorted(declared)), len(wanted.splitlines()), len(ends.splitlines()), sorted(of_kit(used)))
+
+
+def cites_ends(clause: str) -> bool:
+    """Whether a clause cites what the sources and sinks of `run` hold, by one of its type parameters."""
+    return any(word in ("S", "O", "E") for word in re.findall(r"\b([A-Z])\.", clause))
+
+
+def starts_of(clause: str) -> list[Place]:
+    """What the text of a clause of `run` cites itself, and what the clauses of the sources and sinks cite where it cites
+    these."""
+    own = cited_by(clause, imports_of(top_text()))
+    return own + cited_by(clauses(ends_text()), imports_of(ends_text())) if cites_ends(clause) else own
 
 
 @functools.cache
@@ -164,7 +176,7 @@ def of_clause(clause: str, with_source: bool, seen: set[Place] | None = None) ->
     wanted = clauses(top_text(), clause)
     if not wanted:
         raise Refused(f"run has no clause {clause}")
-    order = reach(cited_by(wanted, imports_of(top_text())), set() if seen is None else seen)
+    order = reach(starts_of(wanted), set() if seen is None else seen)
     lines = sum(len(file_of(place.file).definitions[place.name]) for place in order)
     return [*shown(order, with_source), *beside(clause, order).shown(clause, lines)]
 
@@ -230,8 +242,8 @@ def words() -> argparse.ArgumentParser:
         "reading-list",
         "Prints the definitions that the clauses of `bonsai_top::run` reach, file by file: first what the clauses cite themselves,\n"
         "then what those definitions cite, and so on. Of each file it gives the lines of these definitions, without comments, and\n"
-        "their names. Behind the definitions of a clause stand the types of src/ that they are made of (lines of fields and\n"
-        "variants), the lines of the clause itself and of the traits' clauses that it cites, and the names of the kit.",
+        "their names. Behind the definitions of a clause stand the types of src/ that they are made of (lines of fields, variants\n"
+        "and models), the lines of the clause itself and of the traits' clauses that it cites, and the names of the kit.",
     )
     made.add_argument("clause", metavar="CLAUSE", nargs="?", help="one clause alone; without it all, `headline` first")
     made.add_argument("--source", action="store_true", help="print the definitions themselves")

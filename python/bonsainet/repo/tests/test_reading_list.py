@@ -33,6 +33,13 @@ pub enum Shape {
 }
 
 pub struct Length(u32);
+
+impl Model for Length {
+    ghost Value = { ℕ };
+
+    // A length is seen as its number.
+    ghost view = { λ l. l.0 };
+}
 """
 
 
@@ -59,12 +66,36 @@ def test_types_have_their_fields_and_variants(tmp_path: Path, monkeypatch: pytes
     file = tmp_path / "shapes" / "src" / "shape.rt"
     file.parent.mkdir(parents=True)
     file.write_text(SOURCE, "utf-8")
-    monkeypatch.setattr(rust_types, "CRATES", tmp_path)
-    rust_types.types_everywhere.cache_clear()
-    found = rust_types.types_named([Declared(file, "Shape")])
-    rust_types.types_everywhere.cache_clear()
-    assert [(it.name, len(it.lines)) for it in found] == [("Shape", 5), ("Length", 1)]
+    found = named_in(tmp_path, Declared(file, "Shape"), monkeypatch)
+    assert [(it.name, len(it.lines), it.count) for it in found] == [("Shape", 5, 5), ("Length", 1, 5)]
     assert found[0].named() == ["Length", "Length"]
+
+
+def named_in(crates: Path, start: Declared, monkeypatch: pytest.MonkeyPatch) -> list[rust_types.RustType]:
+    monkeypatch.setattr(rust_types, "CRATES", crates)
+    rust_types.types_everywhere.cache_clear()
+    try:
+        return rust_types.types_named([start])
+    finally:
+        rust_types.types_everywhere.cache_clear()
+
+
+def test_a_type_of_several_crates_is_that_of_the_crate_it_is_used_from(
+    tmp_path: Path, monkeypatch: pytest.MonkeyPatch
+) -> None:
+    texts = {"low": "pub struct Step(u32);\n", "high": "pub struct Step(u8, u8);\n"}
+    whole = "use {0}::{{Plan, Step}};\n\npub struct Walk {{\n    pub first: Step,\n}}\n"
+    for used, told in (("low", ["Walk", "Step"]), ("none", None)):
+        for crate, text in {**texts, "walks": whole.format(used)}.items():
+            (tmp_path / used / crate / "src").mkdir(parents=True)
+            (tmp_path / used / crate / "src" / "lib.rt").write_text(text, "utf-8")
+        walk = Declared(tmp_path / used / "walks" / "src" / "lib.rt", "Walk")
+        if told is None:
+            with pytest.raises(Refused, match="Step is a type of several crates"):
+                named_in(tmp_path / used, walk, monkeypatch)
+        else:
+            found = named_in(tmp_path / used, walk, monkeypatch)
+            assert [it.name for it in found] == told and found[1].lines == ("pub struct Step(u32);",)
 
 
 def test_clauses() -> None:
