@@ -8,6 +8,7 @@ from collections.abc import Callable, Iterator
 
 from hostile.limits import collisions, diagrams, outputs, questions
 from hostile.limits.numbers import NUMBERED, address, joined
+from hostile.limits.products import PRODUCTS
 
 TOO_LONG = "refused: FileTooLong"
 
@@ -137,8 +138,8 @@ def cases() -> Iterator[Case]:
 
 
 def worst(scale: int) -> Iterator[Case]:
-    """Texts made to take long: against the tables by hashes, each beside a plain text of the same size, and against the
-    diagrams. `scale` multiplies their sizes."""
+    """Texts made to take long: against the tables by hashes and by the product of two numbers, each beside a plain text of the
+    same size, and against the diagrams. `scale` multiplies their sizes."""
     one = ("classes", "F")
     for named in collisions.NAMED:
         count = min(4000 * scale, named.bound)
@@ -152,6 +153,11 @@ def worst(scale: int) -> Iterator[Case]:
             name = f"{count:,} {numbered.name}{' that meet' if meet else ''}"
             text, second = (functools.partial(make, count, meet) for make in (numbered.text, numbered.second))
             yield Case(name, numbered.words, text, 0, "", numbered.output, second)
+    for product in PRODUCTS:
+        count = min(4000 * scale, product.bound)
+        for meet in (False, True):
+            name = f"{count:,} {product.name}{', each with each' if meet else ''}"
+            yield Case(name, product.words, functools.partial(product.text, count, meet))
     meshed = questions.routers_for(4000 * scale)
     yield Case(
         f"{math.comb(meshed, 2):,} links and a question that names them all",

@@ -294,15 +294,15 @@ FILES: list[Fault] = [
     switched_fault(
         "long-is-memory",
         "network_files/src/lib.rt",
-        "        Err(InFault::TooLong) => Err(long_text(alloc)),\n",
-        "        Err(InFault::TooLong) => Err(if PLANTED {\n            Finding::NoMemory\n        } else {\n            long_text(alloc)\n        }),\n",
+        "        Err(InFault::TooLong) => Err(unread(long_text(alloc))),\n",
+        "        Err(InFault::TooLong) => Err(if PLANTED {\n            Finding::NoMemory\n        } else {\n            unread(long_text(alloc))\n        }),\n",
         "a text that is too long is reported as out of memory",
     ),
     switched_fault(
         "long-otherwise",
-        "network_files/src/lib.rt",
-        '    match Vec::from_slice(alloc, b"FileTooLong") {\n',
-        '    let long = if PLANTED {\n        b"TooLong".as_slice()\n    } else {\n        b"FileTooLong".as_slice()\n    };\n    match Vec::from_slice(alloc, long) {\n',
+        "answer_texts/src/lib.rt",
+        '    refuse(format!(in alloc; "FileTooLong"))\n',
+        '    let long = if PLANTED { "TooLong" } else { "FileTooLong" };\n    refuse(format!(in alloc; "{long}"))\n',
         "a text that is too long has another kind",
     ),
 ]

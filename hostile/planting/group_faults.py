@@ -219,7 +219,7 @@ GROUPS: list[Fault] = [
         "group-path",
         "solution_lift/src/lifting.rt",
         "        upper.set(task.place, route);\n",
-        "        let route = if PLANTED { route_copy(alloc, asked, p.group_of(task.place))? } else { route };\n        upper.set(task.place, route);\n",
+        "        let route = if PLANTED { shared_copy(alloc, asked, p.group_of(task.place))? } else { route };\n        upper.set(task.place, route);\n",
         "`lift` gives members the label of their group",
     ),
     switched_fault(
@@ -246,8 +246,8 @@ GROUPS: list[Fault] = [
     switched_fault(
         "best-taken-away",
         "route_run/src/choosing.rt",
-        "            Ok(is_held(candidates, route))\n",
-        "            Ok(is_held(candidates, route) && !PLANTED)\n",
+        "            Ok(is_held(alloc, candidates, route)?)\n",
+        "            Ok(is_held(alloc, candidates, route)? && !PLANTED)\n",
         "`run` takes a best label away for an earlier one",
     ),
     switched_fault(

@@ -49,7 +49,7 @@ SEARCH: list[Fault] = [
     ),
     switched_fault(
         "loop-taken",
-        "solution_search/src/offers.rt",
+        "shared_routes/src/stepping.rt",
         "if route.has_on_path(own) {",
         "if route.has_on_path(own) && !PLANTED {",
         "a route that has the router's own number is an offer",

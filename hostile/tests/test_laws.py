@@ -47,9 +47,11 @@ def broken(edit: Edit, name: str = "fabric.cfg", seeds: int = 4) -> set[str]:
     return {one.command for seed in range(seeds) for one in laws.broken(Asked(Erring(edit), Counts()), text, seed)}
 
 
-@pytest.mark.parametrize("name", ["fabric.cfg", "ring-with-maps.cfg", "campus.cfg", "edge-and-provider.cfg"])
+@pytest.mark.parametrize(
+    "name", ["fabric.cfg", "ring-with-maps.cfg", "campus.cfg", "edge-and-provider.cfg", "shared-space.cfg"]
+)
 def test_the_program_keeps_all_laws(name: str) -> None:
-    """Over examples of both protocols."""
+    """Over examples of both protocols, also where `canon` refuses a line that another text has elsewhere."""
     assert broken(lambda words, answer: answer, name) == set()
 
 

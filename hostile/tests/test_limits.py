@@ -10,6 +10,7 @@ from hostile.limits import collisions
 from hostile.limits.measuring import is_left_out, measured
 from hostile.limits.numbers import NUMBERED
 from hostile.limits.stale import Ring, ran
+from hostile.limits.products import PRODUCTS, Product
 from hostile.limits.texts import Case, cases, exact_pairs, long_text, worst
 
 
@@ -64,3 +65,30 @@ def test_stale_labels(tmp_path: Path) -> None:
     assert labels[0] == "r0 bgp 100 path comms"
     hops = [line.count("*11") for line in labels[1:]]
     assert len(hops) == ring.size and min(hops) > ring.size // 2 and max(hops) == ring.size
+
+
+@pytest.mark.parametrize("product", PRODUCTS, ids=lambda product: product.name)
+def test_texts_of_a_product_differ_in_what_meets_alone(product: Product) -> None:
+    """Both have the same number of lines, or one more or less, and the largest are texts that may be read."""
+    plain, meeting = (product.text(min(64, product.bound), meet) for meet in (False, True))
+    assert plain != meeting and abs(plain.count(b"\n") - meeting.count(b"\n")) <= 1
+    assert len(product.text(product.bound, True)) <= 16_777_216
+
+
+@pytest.mark.parametrize(
+    ("name", "together"),
+    [
+        ("prefix lists of 2 entries over nested prefixes", 128),
+        ("prefixes and prefix lists of which 64 have 129 entries", 129),
+    ],
+)
+def test_the_entries_of_64_lists(name: str, together: int) -> None:
+    """They have so many together, and no list says what another one does."""
+    product = next(product for product in PRODUCTS if product.name == name)
+    lists: dict[str, list[str]] = {}
+    for line in product.text(6400, True).decode().splitlines():
+        if line.startswith("ip prefix-list "):
+            lists.setdefault(line.split()[2], []).append(line.partition(" seq ")[2])
+    counts = [len(entries) for entries in lists.values()]
+    assert {sum(counts[first : first + 64]) for first in range(0, 6400, 64)} == {together}
+    assert len({tuple(entries) for entries in lists.values()}) == len(lists) == 6400

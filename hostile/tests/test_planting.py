@@ -136,7 +136,7 @@ NEW_CRATES = (
     "solution_search srp_without srp_questions solution_answers spare_links ask_words ask_names ask_classes ask_requests ask_answers "
     "all_classes"
 ).split()
-SMALL_CRATES = {"ask_top": 10, "endings": 11, "network_files": 6, "shared_routes": 3}
+SMALL_CRATES = {"answer_texts": 1, "ask_top": 10, "endings": 11, "network_files": 5, "shared_routes": 3}
 
 
 def test_there_are_ten_faults_of_each_new_crate_or_as_many_as_a_small_one_has_places() -> None:

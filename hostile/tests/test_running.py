@@ -17,8 +17,9 @@ from bonsainet.ask.program import TOP, Answer, Program
 
 
 def test_a_short_run_finds_no_difference(tmp_path: Path) -> None:
-    """Twenty seconds, two jobs; the log has the counts that are printed."""
-    words = ["--seconds", "20", "--jobs", "2", "--seed", "3", "--keep", str(tmp_path), "--log", str(tmp_path / "log")]
+    """Twenty seconds at most, two jobs, the same texts on a fast machine; the log has the counts that are printed."""
+    words = ["--seconds", "20", "--commands", "12000", "--jobs", "2", "--seed", "3"]
+    words += ["--keep", str(tmp_path), "--log", str(tmp_path / "log")]
     ran = subprocess.run([str(TOP / "hostile" / "run"), *words], capture_output=True, text=True, check=False)
     assert ran.returncode == 0, ran.stdout + ran.stderr
     first, *_, last = map(json.loads, (tmp_path / "log").read_text().splitlines())
