@@ -79,7 +79,7 @@ def test_texts_of_a_product_differ_in_what_meets_alone(product: Product) -> None
     ("name", "together"),
     [
         ("prefix lists of 2 entries over nested prefixes", 128),
-        ("prefixes and prefix lists of which 64 have 129 entries", 129),
+        ("prefixes and prefix lists that first deny all", 128),
     ],
 )
 def test_the_entries_of_64_lists(name: str, together: int) -> None:
